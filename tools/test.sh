@@ -1,0 +1,12 @@
+#!/usr/bin/env bash
+# Passes the tests: proves every crate of crates.txt from nothing, tries the
+# must-fail edits, runs the programs and the #[test] functions.
+# The very last line is rt's own verdict; anything but 'N passed, 0 failed' fails.
+set -u
+cd "$(dirname "$0")/.." || exit 1
+log=$(mktemp)
+trap 'rm -f "$log"' EXIT
+rt ci 2>&1 | tee "$log"
+status=${PIPESTATUS[0]}
+[ "$status" -eq 0 ] || exit "$status"
+tail -n 1 "$log" | grep -Eq '^[1-9][0-9]* passed, 0 failed$'
