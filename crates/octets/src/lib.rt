@@ -1,0 +1,41 @@
+// Numbers as octets, most significant octet first: the one place where the order of octets is decided.
+ghost use mathlib.Core.Path.{_≡_};
+ghost use Prim.Native.Nat.{_%_, _^_};
+ghost use Rattle.octets.specs.Numbers.{octets-of, number, Octets-and-numbers};
+
+// The four octets of a number of 32 bits.
+pub fn of_u32(n: u32) -> [u8; 4]
+    ensures { λ r. ⌜ r ≡ octets-of 4 n ⌝ }
+{
+    n.to_be_bytes()
+}
+
+// The number that four octets are.
+pub fn to_u32(octets: [u8; 4]) -> u32
+    ensures { λ r. ⌜ r ≡ number octets ⌝ }
+{
+    u32::from_be_bytes(octets)
+}
+
+// The last six of the eight octets of a number: all of it, where it is below 2^48.
+pub fn of_u48(n: u64) -> [u8; 6]
+    ensures { λ r. ⌜ r ≡ octets-of 6 n ⌝ }
+{
+    let [_, _, a, b, c, d, e, f] = n.to_be_bytes();
+    [a, b, c, d, e, f]
+}
+
+// The number that six octets are.
+pub fn to_u48(octets: [u8; 6]) -> u64
+    ensures { λ r. ⌜ r ≡ number octets ⌝ }
+{
+    let [a, b, c, d, e, f] = octets;
+    u64::from_be_bytes([0, 0, a, b, c, d, e, f])
+}
+
+// The theorem: octets and numbers of one width stand for each other.
+pub fn octets_and_numbers() -> u8
+    ensures { λ _. ⌜ Octets-and-numbers ⌝ }
+{
+    0
+}

@@ -1,0 +1,3 @@
+pub mod Components
+pub mod Modes
+pub mod Refusals

@@ -1,0 +1,4 @@
+// The rules of a MAPsec station that need no station: refusals, settings, protection modes, the window and the message layout.
+pub mod component;
+pub mod protection;
+pub mod refusal;
