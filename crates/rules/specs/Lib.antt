@@ -1,3 +1,4 @@
 pub mod Components
 pub mod Modes
 pub mod Refusals
+pub mod Window

@@ -2,3 +2,4 @@
 pub mod component;
 pub mod protection;
 pub mod refusal;
+pub mod window;
