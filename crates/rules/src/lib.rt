@@ -1,5 +1,8 @@
 // The rules of a MAPsec station that need no station: refusals, settings, protection modes, the window and the message layout.
 pub mod component;
+pub mod listed;
+pub mod profile;
 pub mod protection;
 pub mod refusal;
+pub mod settings;
 pub mod window;
