@@ -1,5 +1,6 @@
 pub mod Checks
 pub mod Components
+pub mod Layout
 pub mod Listed
 pub mod Modes
 pub mod Profiles
