@@ -1,4 +1,4 @@
+pub mod Layouts
 pub mod Parts
-pub mod Scans
 pub mod Stages
 pub mod Ticks

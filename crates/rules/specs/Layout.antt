@@ -7,11 +7,18 @@ use mathlib.Core.List.{List, [], _∷_, _++_}
 use Prim.Native.Nat.{ℕ, _+_, _-_, _^_, _<_, _≤_}
 use lib.Dec.{ltb}
 use lib.ListN.{length, getD, take, drop}
+use Rattle.std.specs.declared.result.Result.{Result}
+use Rattle.std.specs.declared.result.Result.the-variants.{Ok, Err}
 use Rattle.octets.specs.Numbers.{Octets, octets-of, number}
 use Rattle.rules.specs.declared.message.SecurityHeader.{SecurityHeader}
 use Rattle.rules.specs.declared.message.IvFields.{IvFields}
+use Rattle.rules.specs.declared.message.Message.{Message}
+use Rattle.rules.specs.declared.message.Message.the-variants.{Open, Sealed}
+use Rattle.rules.specs.declared.message.Part.{Part}
+use Rattle.rules.specs.declared.protection.ProtectionMode.{ProtectionMode}
 use Rattle.rules.specs.declared.refusal.Refusal.{Refusal}
 use Rattle.rules.specs.declared.refusal.Refusal.the-variants.{MessageTooShort}
+use Rattle.rules.specs.Modes.{protects}
 
 -- LAYING OUT
 
@@ -60,3 +67,64 @@ tag-in xs = number (part (length xs - 4) 4 xs)
 -- a header needs six octets
 abbrev pub header-checks : List ℕ → List (Bool × Refusal)
 header-checks xs = (ltb (length xs) 6, MessageTooShort (length xs)) ∷ []
+
+-- a part lies at its place, and is the octets that stand there
+pub record Part-at (xs : List ℕ) (place width : ℕ) (p : Part) : Type 0 where
+  pub place-is : p .place ≡ place
+  pub octets-are : p .octets .now ≡ part place width xs
+  pub inside : place + width ≤ length xs
+
+-- an open message is its header and its payload, in this order, and nothing else
+pub record Open-parts (xs : List ℕ) (h p : Part) : Type 0 where
+  pub header : Part-at xs 0 6 h
+  pub payload : Part-at xs 6 (length xs - 6) p
+  pub laid-out : xs ≡ open-message (header-in xs) (p .octets .now)
+
+-- a sealed message is its header, its payload and its tag
+pub record Sealed-parts (xs : List ℕ) (h : Part) (f : IvFields) (p t : Part) (n : ℕ) : Type 0 where
+  pub header : Part-at xs 0 20 h
+  pub fields : f ≡ fields-in xs
+  pub payload : Part-at xs 20 (length xs - 24) p
+  pub tag : Part-at xs (length xs - 4) 4 t
+  pub claimed : n ≡ tag-in xs
+  pub laid-out : xs ≡ sealed-message (header-in xs) f (p .octets .now) n
+
+-- What reading answers: the shape of the mode, or that the message is too short for it.
+abbrev pub Reads-as : List ℕ → Bool → Result Message Refusal → Type 0
+Reads-as xs true (Ok (Open h p)) = ⊥
+Reads-as xs true (Ok (Sealed h f p t c)) = Sealed-parts xs h f p t c
+Reads-as xs true (Err e) = (length xs < 24) × (e ≡ MessageTooShort (length xs))
+Reads-as xs false (Ok (Open h p)) = Open-parts xs h p
+Reads-as xs false (Ok (Sealed h f p t c)) = ⊥
+Reads-as xs false (Err e) = (length xs < 6) × (e ≡ MessageTooShort (length xs))
+
+abbrev pub Reads : List ℕ → ProtectionMode → Result Message Refusal → Type 0
+Reads xs mode r = Reads-as xs (protects mode) r
+
+-- fields that fit their octets
+pub record Header-fits (h : SecurityHeader) : Type 0 where
+  pub spi : h .spi < 2 ^ 32
+
+pub record Fields-fit (f : IvFields) : Type 0 where
+  pub tvp : f .tvp < 2 ^ 32
+  pub ne-id : f .«ne_id» < 2 ^ 48
+  pub prop : f .prop < 2 ^ 32
+
+-- Reading what was laid out gives the fields, the payload and the tag back.
+pub record Open-undone (h : SecurityHeader) (payload : List ℕ) : Type 0 where
+  pub header : header-in (open-message h payload) ≡ h
+  pub payload-is : open-payload (open-message h payload) ≡ payload
+  pub long : length (open-message h payload) ≡ 6 + length payload
+
+pub record Sealed-undone (h : SecurityHeader) (f : IvFields) (payload : List ℕ) (tag : ℕ) : Type 0 where
+  pub header : header-in (sealed-message h f payload tag) ≡ h
+  pub fields : fields-in (sealed-message h f payload tag) ≡ f
+  pub payload-is : sealed-payload (sealed-message h f payload tag) ≡ payload
+  pub tag-is : tag-in (sealed-message h f payload tag) ≡ tag
+  pub covered : take (length (sealed-message h f payload tag) - 4) (sealed-message h f payload tag) ≡ sealed-header h f ++ payload
+  pub long : length (sealed-message h f payload tag) ≡ 24 + length payload
+
+abbrev pub Reading-undoes-laying-out : Type 0
+Reading-undoes-laying-out =
+    ((h : SecurityHeader) (payload : List ℕ) → Header-fits h → Open-undone h payload)
+  × ((h : SecurityHeader) (f : IvFields) (payload : List ℕ) (tag : ℕ) → Header-fits h → Fields-fit f → tag < 2 ^ 32 → Sealed-undone h f payload tag)

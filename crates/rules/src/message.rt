@@ -6,8 +6,9 @@ ghost use lib.Dec.{ltb};
 ghost use lib.ListN.{length};
 ghost use Rattle.octets.specs.Numbers.{number};
 ghost use Rattle.rules.specs.Checks.{decided};
-ghost use Rattle.rules.specs.Layout.{part, open-header, sealed-header, iv-octets, header-in, fields-in, header-checks};
+ghost use Rattle.rules.specs.Layout.{part, open-header, sealed-header, iv-octets, header-in, fields-in, header-checks, Reads, Reading-undoes-laying-out};
 use crate::component::ComponentId;
+use crate::protection::ProtectionMode;
 use crate::refusal::Refusal;
 
 // What every message starts with: the SPI, and the identifier of the component inside.
@@ -84,4 +85,62 @@ fn u48_at(octets: &[u8], place: usize) -> u64
     ensures { λ r. ⌜ r ≡ number (part place 6 (now (octets .entry))) ⌝ }
 {
     octets::to_u48([octets[place], octets[place + 1], octets[place + 2], octets[place + 3], octets[place + 4], octets[place + 5]])
+}
+
+// Octets of a message, with the place of the first of them.
+#[derive(Clone, Copy)]
+pub struct Part<'a> {
+    pub place: usize,
+    pub octets: &'a [u8],
+}
+
+// What reading yields: one of two shapes, whose parts are the message's own octets.
+#[derive(Drop)]
+pub enum Message<'a> {
+    // mode 0
+    Open { header: Part<'a>, payload: Part<'a> },
+    // modes 1 and 2, with what the header and the tag say as numbers
+    Sealed { header: Part<'a>, fields: IvFields, payload: Part<'a>, tag: Part<'a>, claimed: u32 },
+}
+
+// The header's fields behind SPI and identifier.
+fn fields_of(message: &[u8]) -> IvFields
+    requires { ⌜ 20 ≤ length (now message) ⌝ }
+    ensures { λ r. ⌜ r ≡ fields-in (now (message .entry)) ⌝ }
+{
+    IvFields { tvp: u32_at(message, 6), ne_id: u48_at(message, 10), prop: u32_at(message, 16) }
+}
+
+// Reads a message of a mode, or refuses one that is too short for its shape.
+pub fn read(message: &[u8], mode: ProtectionMode) -> Result<Message<'_>, Refusal>
+    ensures { λ r. ⌜ Reads (now (message .entry)) mode r ⌝ }
+{
+    let length = message.len();
+    if mode.protects() {
+        if length < 24 {
+            return Err(Refusal::MessageTooShort { length });
+        }
+        let end = length - 4;
+        return Ok(Message::Sealed {
+            header: Part { place: 0, octets: &message[0..20] },
+            fields: fields_of(message),
+            payload: Part { place: 20, octets: &message[20..end] },
+            tag: Part { place: end, octets: &message[end..length] },
+            claimed: u32_at(message, end),
+        });
+    }
+    if length < 6 {
+        return Err(Refusal::MessageTooShort { length });
+    }
+    Ok(Message::Open {
+        header: Part { place: 0, octets: &message[0..6] },
+        payload: Part { place: 6, octets: &message[6..length] },
+    })
+}
+
+// The theorem: reading what was laid out gives the fields back.
+pub fn reading_undoes_laying_out() -> u8
+    ensures { λ _. ⌜ Reading-undoes-laying-out ⌝ }
+{
+    0
 }
