@@ -7,3 +7,6 @@ pub mod protection;
 pub mod refusal;
 pub mod settings;
 pub mod window;
+
+#[cfg(test)]
+mod tests;

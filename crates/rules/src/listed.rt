@@ -4,7 +4,7 @@ ghost use Rattle.rules.specs.Listed.{kinds-known, listed-in};
 use crate::component::ComponentId;
 
 // Whether each identifier is of a known kind.
-pub fn kinds_known(listed: &[ComponentId]) -> bool
+pub(crate) fn kinds_known(listed: &[ComponentId]) -> bool
     ensures { λ r. ⌜ r ≡ kinds-known (now (listed .entry)) ⌝ }
 {
     for id in listed {
@@ -16,7 +16,7 @@ pub fn kinds_known(listed: &[ComponentId]) -> bool
 }
 
 // Whether the identifier is among them.
-pub fn lists(listed: &[ComponentId], id: ComponentId) -> bool
+pub(crate) fn lists(listed: &[ComponentId], id: ComponentId) -> bool
     ensures { λ r. ⌜ r ≡ listed-in id (now (listed .entry)) ⌝ }
 {
     for other in listed {

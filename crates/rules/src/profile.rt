@@ -26,7 +26,7 @@ fn level_in(lines: &[ProfileLine], ppi: u16, code: u8) -> Option<u8>
 }
 
 // The modes that the lines give to an operation under a PPI; none where no line has them.
-pub fn row_in(lines: &[ProfileLine], ppi: u16, code: u8) -> Option<LevelModes>
+pub(crate) fn row_in(lines: &[ProfileLine], ppi: u16, code: u8) -> Option<LevelModes>
     ensures { λ r. ⌜ r ≡ row-in ppi code (now (lines .entry)) ⌝ }
 {
     match level_in(lines, ppi, code) {
@@ -36,7 +36,7 @@ pub fn row_in(lines: &[ProfileLine], ppi: u16, code: u8) -> Option<LevelModes>
 }
 
 // Whether each line has a level that there is.
-pub fn levels_known(lines: &[ProfileLine]) -> bool
+pub(crate) fn levels_known(lines: &[ProfileLine]) -> bool
     ensures { λ r. ⌜ r ≡ levels-known (now (lines .entry)) ⌝ }
 {
     for line in lines {
@@ -48,7 +48,7 @@ pub fn levels_known(lines: &[ProfileLine]) -> bool
 }
 
 // Whether no two lines share PPI and code.
-pub fn lines_apart(lines: &[ProfileLine]) -> bool
+pub(crate) fn lines_apart(lines: &[ProfileLine]) -> bool
     ensures { λ r. ⌜ r ≡ lines-apart (now (lines .entry)) ⌝ }
 {
     for (i, line) in lines.iter().enumerate() {
