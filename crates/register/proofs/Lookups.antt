@@ -12,7 +12,7 @@ use Rattle.std.specs.declared.option.Option.{Option}
 use Rattle.std.specs.declared.option.Option.the-variants.{Some, None}
 use Rattle.std.proofs.shelf.Lists.{getD-set-same, getD-set-other}
 use Rattle.std.proofs.shelf.Tests.{cases-bool, cases-eq, cases-order, both-ways, cond-true, cond-false, ltb-false, ltb-true}
-use Rattle.register.specs.Places.{Holds, Apart, Found, pick, lookup, held-count, not-past}
+use Rattle.register.specs.Places.{Holds, Twice, Apart, Found, pick, lookup, held-count, not-past}
 use Rattle.register.proofs.Counts.{count-none}
 
 -- What a kind of record owes of the sameness of its keys.
@@ -33,6 +33,18 @@ refuted true no-way = absurd (no-way refl)
 refuted false no-way = refl
 
 module _ {R K : Type 0} (key : R → K) (same : K → K → Bool) where
+  -- Keys are apart exactly where no two places have the same.
+  abbrev pub Unlike : List (Option R) → Type 0
+  Unlike ps = (i j : ℕ) (r s : R) → i < j → getD ps i None ≡ Some r → getD ps j None ≡ Some s → same (key r) (key s) ≡ true → ⊥
+
+  pub apart-from : (ps : List (Option R)) → Unlike ps → Apart key same ps
+  unfolding Twice
+  apart-from ps unlike t = unlike (t .0) (t .1) (t .2) (t .3) (t .4) (t .5) (t .6) (t .7)
+
+  pub apart-at : (ps : List (Option R)) → Apart key same ps → Unlike ps
+  unfolding Twice
+  apart-at ps apart i j r s l e d t = apart (i, j, r, s, l, e, d, t)
+
   found-more : (k : K) (p : Option R) (ps : List (Option R)) (o : Option R) → ((r : R) → p ≡ Some r → same k (key r) ≡ false) → Found key same k ps o → Found key same k (p ∷ ps) o
   found-more k p ps None other f = λ r h. at r (h .0) (h .1)
     where
@@ -62,7 +74,7 @@ module _ {R K : Type 0} (key : R → K) (same : K → K → Bool) where
   -- Places without a record.
   module _ (ps : List (Option R)) (free : (i : ℕ) → getD ps i None ≡ None) where
     pub free-apart : Apart key same ps
-    free-apart i j r s l e _ _ = none-some (sym (free i) ∙ e)
+    free-apart = apart-from ps (λ i j r s l e _ _. none-some (sym (free i) ∙ e))
 
     pub free-lookup : (k : K) → lookup key same k ps ≡ None
     free-lookup k = none (lookup key same k ps) refl
@@ -106,8 +118,8 @@ module _ {R K : Type 0} (key : R → K) (same : K → K → Bool) where
       one-place k i j r s e d t u =
           ⊎-elim (λ x. x)
           (⊎-elim
-          (λ l. absurd (apart i j r s l e d (joined (key r) (key s) k t u)))
-          (λ l. absurd (apart j i s r l d e (joined (key s) (key r) k u t))))
+          (λ l. absurd (apart-at ps apart i j r s l e d (joined (key r) (key s) k t u)))
+          (λ l. absurd (apart-at ps apart j i s r l d e (joined (key s) (key r) k u t))))
           (cases-order i j)
 
       -- No key twice: what is found under a key is one thing.
@@ -141,19 +153,22 @@ module _ {R K : Type 0} (key : R → K) (same : K → K → Bool) where
           refuted (same own (key r)) (λ t. ne (one-place ps apart own j i r r e (at ∙ lookup-is ps apart own (Some r) ((j, e), t)) t t))
 
       pub write-apart : Apart key same (set ps i new)
-      write-apart a b r s l e d t =
+      write-apart = apart-from (set ps i new) (λ a b r s less e d t.
           ⊎-elim
-          (λ a≡i. both-ways (same own (key s))
-          (others b s (λ b≡i. omega arith) (at-other b s (λ b≡i. omega arith) d))
-          (laws .transitive own (key r) (key s) (under r (at-place r (subst (λ x. getD (set ps i new) x None ≡ Some r) a≡i e))) t))
-          (λ a≢i.
+          (λ a-here.
+          let away : b ≢ i = λ b-here. omega arith in
+          both-ways (same own (key s))
+          (others b s away (at-other b s away d))
+          (laws .transitive own (key r) (key s) (under r (at-place r (subst (λ x. getD (set ps i new) x None ≡ Some r) a-here e))) t))
+          (λ a-away.
           ⊎-elim
-          (λ b≡i. both-ways (same own (key r))
-          (others a r a≢i (at-other a r a≢i e))
-          (laws .transitive own (key s) (key r) (under s (at-place s (subst (λ x. getD (set ps i new) x None ≡ Some s) b≡i d))) (laws .symmetric (key r) (key s) t)))
-          (λ b≢i. apart a b r s l (at-other a r a≢i e) (at-other b s b≢i d) t)
+          (λ b-here.
+          both-ways (same own (key r))
+          (others a r a-away (at-other a r a-away e))
+          (laws .transitive own (key s) (key r) (under s (at-place s (subst (λ x. getD (set ps i new) x None ≡ Some s) b-here d))) (laws .symmetric (key r) (key s) t)))
+          (λ b-away. apart-at ps apart a b r s less (at-other a r a-away e) (at-other b s b-away d) t)
           (cases-eq b i))
-          (cases-eq a i)
+          (cases-eq a i))
 
       -- a record of another key than the one written
       elsewhere : (k : K) → same k own ≡ false → (r : R) → same k (key r) ≡ true → same own (key r) ≡ true → ⊥
@@ -209,7 +224,8 @@ module _ {R K : Type 0} (key : R → K) (same : K → K → Bool) where
     left-at ps i r e = left-was (getD ps i None) r (sym (kept-at ps i) ∙ e)
 
     pub drop-apart : (ps : List (Option R)) → Apart key same ps → Apart key same (map (not-past last tick) ps)
-    drop-apart ps apart i j r s l e d = apart i j r s l (left-at ps i r e .0) (left-at ps j s d .0)
+    drop-apart ps apart =
+        apart-from (map (not-past last tick) ps) (λ i j r s l e d. apart-at ps apart i j r s l (left-at ps i r e .0) (left-at ps j s d .0))
 
     -- Under each key stands what stood there, unless it is past.
     pub drop-lookup : Equivalence same → (ps : List (Option R)) → Apart key same ps → (k : K) → lookup key same k (map (not-past last tick) ps) ≡ not-past last tick (lookup key same k ps)

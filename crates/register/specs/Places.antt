@@ -15,9 +15,13 @@ use Rattle.std.specs.declared.option.Option.the-variants.{Some, None}
 abbrev pub Holds : {R : Type 0} → List (Option R) → R → Type 0
 Holds places r = (i : ℕ) × (getD places i None ≡ Some r)
 
--- No key twice: no two places hold records whose keys are the same.
+-- Two places hold records whose keys are the same.
+unfoldable pub Twice : {R K : Type 0} → (R → K) → (K → K → Bool) → List (Option R) → Type 0
+Twice {R} key same places = (i : ℕ) × (j : ℕ) × (r : R) × (s : R) × (i < j) × (getD places i None ≡ Some r) × (getD places j None ≡ Some s) × (same (key r) (key s) ≡ true)
+
+-- No key is held twice.
 abbrev pub Apart : {R K : Type 0} → (R → K) → (K → K → Bool) → List (Option R) → Type 0
-Apart {R} key same places = (i j : ℕ) (r s : R) → i < j → getD places i None ≡ Some r → getD places j None ≡ Some s → same (key r) (key s) ≡ true → ⊥
+Apart key same places = Twice key same places → ⊥
 
 -- The record at a place if it has the key, else what the places after it give.
 abbrev pub pick : {R K : Type 0} → (R → K) → (K → K → Bool) → K → Option R → Option R → Option R
