@@ -12,7 +12,7 @@ use Rattle.std.specs.declared.option.Option.{Option}
 use Rattle.std.specs.declared.option.Option.the-variants.{Some, None}
 use Rattle.std.proofs.shelf.Lists.{getD-set-same, getD-set-other}
 use Rattle.std.proofs.shelf.Tests.{cases-bool, cases-eq, cases-order, both-ways, cond-true, cond-false, ltb-false, ltb-true}
-use Rattle.register.specs.Places.{Holds, Twice, Apart, Found, pick, lookup, held-count, not-past}
+use Rattle.register.specs.Places.{Holds, Twice, Apart, Found, pick, lookup, held-count, not-past, Empty}
 use Rattle.register.proofs.Counts.{count-none}
 
 -- What a kind of record owes of the sameness of its keys.
@@ -73,18 +73,21 @@ module _ {R K : Type 0} (key : R → K) (same : K → K → Bool) where
 
   -- Places without a record.
   module _ (ps : List (Option R)) (free : (i : ℕ) → getD ps i None ≡ None) where
-    pub free-apart : Apart key same ps
+    free-apart : Apart key same ps
     free-apart = apart-from ps (λ i j r s l e _ _. none-some (sym (free i) ∙ e))
 
-    pub free-lookup : (k : K) → lookup key same k ps ≡ None
+    free-lookup : (k : K) → lookup key same k ps ≡ None
     free-lookup k = none (lookup key same k ps) refl
       where
         none : (o : Option R) → lookup key same k ps ≡ o → o ≡ None
         none None e = refl
         none (Some r) e = let h = lookup-some k ps r e .0 in absurd (none-some (sym (free (h .0)) ∙ h .1))
 
-    pub free-count : held-count ps ≡ 0
+    free-count : held-count ps ≡ 0
     free-count = count-none isSome ps None refl free
+
+    pub free-empty : Empty key same ps
+    free-empty = record { apart = free-apart; nothing = free-lookup; counted = free-count }
 
   module _ (laws : Equivalence same) where
     -- Where nothing is held under any key, nothing is held.

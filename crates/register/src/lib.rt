@@ -34,9 +34,10 @@ impl<'a, R: Keyed> Register<'a, R> {
         ensures empty { λ r. ⌜ Empty (R·Keyed .key) (R·Keyed .same) (now (r .places)) ⌝ }
         ensures capacity { λ r. ⌜ length (now (r .places)) ≡ min (length (now (places .entry))) (R·Keyed .most) ⌝ }
     {
-        let places = front(places);
         clear(places);
-        Register { places }
+        Register {
+            places: front(places),
+        }
     }
 
     // The places used, for who looks at all records.

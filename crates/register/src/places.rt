@@ -2,8 +2,8 @@
 ghost use mathlib.Core.Path.{_≡_};
 ghost use mathlib.Core.Bool.{true};
 ghost use mathlib.Core.List.{map};
-ghost use Prim.Native.Nat.{ℕ, _<_, min};
-ghost use lib.ListN.{length, getD};
+ghost use Prim.Native.Nat.{ℕ, _<_};
+ghost use lib.ListN.{length, getD, take, drop};
 ghost use Rattle.std.specs.declared.option.Option.the-variants.{None};
 ghost use Rattle.std.specs.Options.{Cases, isSome};
 ghost use Rattle.register.specs.Places.{lookup, Place-of, held-count, count-not-past, not-past};
@@ -91,18 +91,20 @@ pub(crate) fn drop_past<R: Ending>(places: &mut [Option<R>], tick: u64)
     }
 }
 
-// Empties each place.
-pub(crate) fn clear<R: Copy>(places: &mut [Option<R>])
-    ensures { λ _. ⌜ ((i : ℕ) → getD (now (places .exit)) i None ≡ None) ⌝ }
+// Empties the places up to the kind's bound, and leaves those beyond as they are.
+pub(crate) fn clear<R: Keyed>(places: &mut [Option<R>])
+    ensures emptied { λ _. ⌜ ((i : ℕ) → i < R·Keyed .most → getD (now (places .exit)) i None ≡ None) ⌝ }
+    ensures beyond { λ _. ⌜ drop (R·Keyed .most) (now (places .exit)) ≡ drop (R·Keyed .most) (now (places .entry)) ⌝ }
 {
-    for place in places.iter_mut() {
-        *place = None;
+    let used = places.len().min(R::most_places());
+    for i in 0..used {
+        places[i] = None;
     }
 }
 
-// The places that a register uses: as many as are lent, up to the kind's bound. Those beyond stay as they are.
+// The places up to the kind's bound: a register has no hold of those beyond.
 pub(crate) fn front<R: Keyed>(places: &mut [Option<R>]) -> &mut [Option<R>]
-    ensures { λ r. ⌜ length (now r) ≡ min (length (now (places .entry))) (R·Keyed .most) ⌝ }
+    ensures { λ r. ⌜ now r ≡ take (R·Keyed .most) (now (places .entry)) ⌝ }
 {
     let used = places.len().min(R::most_places());
     &mut places[0..used]

@@ -1,16 +1,18 @@
-use mathlib.Core.Path.{_∙_}
-use Rattle.register.proofs.Lookups.{free-apart, free-lookup, free-count}
+use mathlib.Core.Path.{sym, ap, subst, _∙_}
+use native.Mathlib.Omega.{arith}
+use lib.ListN.{length}
+use Rattle.std.specs.declared.option.Option.the-variants.{None}
+use Rattle.std.proofs.shelf.Lists.{length-take}
+use Rattle.register.specs.Places.{Empty}
+use Rattle.register.proofs.Fronts.{front-free}
+use Rattle.register.proofs.Lookups.{free-empty}
 use Rattle.register.proofs.Register.new.Needs as need
 
 pub returns : need.returns
 returns g c =
     let m = g .R·Keyed in
-    let free = c .clear .ensures in
+    let ps = c .clear .last .places in
     record {
-      empty = record {
-        apart = free-apart (m .key) (m .same) _ free;
-        nothing = free-lookup (m .key) (m .same) _ free;
-        counted = free-count (m .key) (m .same) _ free;
-      };
-      capacity = c .clear .kept .places ∙ c .front-places .ensures;
+      empty = subst (Empty (m .key) (m .same)) (sym (c .front .ensures)) (free-empty (m .key) (m .same) _ (front-free (m .most) ps None (c .clear .ensures .emptied)));
+      capacity = omega (arith, ap length (c .front .ensures), length-take (m .most) ps, c .clear .kept .places);
     }
