@@ -1,0 +1,5 @@
+pub mod Changes
+pub mod Counts
+pub mod Lookups
+mod Fronts
+mod Scans
