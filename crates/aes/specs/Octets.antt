@@ -10,11 +10,11 @@ abbrev pub Octets : List ℕ → Type 0
 Octets xs = All (λ x. x < 256) xs
 
 -- the w lowest octets of a number
-abbrev pub octets : ℕ → ℕ → List ℕ
+unfoldable pub octets : ℕ → ℕ → List ℕ
 octets zero n = []
 octets (suc w) n = n / 256 ^ w % 256 ∷ octets w n
 
 -- the number that octets are
-abbrev pub number : List ℕ → ℕ
+unfoldable pub number : List ℕ → ℕ
 number [] = 0
 number (x ∷ xs) = x * 256 ^ length xs + number xs
