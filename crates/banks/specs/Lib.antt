@@ -1,0 +1,5 @@
+pub mod Keys
+pub mod Ciphers
+pub mod Tags
+pub mod Mea1
+pub mod Mia1
