@@ -1,0 +1,4 @@
+pub mod Admit
+pub mod Records
+pub mod Revoke
+pub mod States
