@@ -66,3 +66,9 @@ number-whole w xs e = ap number (sym (take-all w xs (omega arith))) ∙ number-p
 pub number-rest : (w i : ℕ) (xs : List ℕ) → length xs ≡ i + w → number (drop i xs) ≡ weighted w i xs
 number-rest w i xs e =
     ap number (sym (take-all w (drop i xs) (omega (arith, length-drop i xs)))) ∙ number-part w i xs (omega arith)
+
+-- the first four octets of a key, as a number
+pub lead-is : (k : Key) (xs : List ℕ) → xs ≡ key-octets k
+    → getD xs 0 0 * 16777216 + getD xs 1 0 * 65536 + getD xs 2 0 * 256 + getD xs 3 0 ≡ number (take 4 (key-octets k))
+unfolding weighted
+lead-is k xs e = rw e (omega (arith, number-part 4 0 (key-octets k) (omega (arith, length-key k))))

@@ -1,2 +1,4 @@
 pub mod Numbers
 pub mod KeyOctets
+pub mod Laws
+pub mod Stream

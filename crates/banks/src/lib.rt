@@ -1,2 +1,6 @@
 // Banks of ciphers and of tags: what they promise, and the ones that are delivered.
+pub mod cipher;
+mod counter;
 pub mod keys;
+pub mod pair;
+pub mod tag;
