@@ -24,7 +24,7 @@ pub record Equivalence {K : Type 0} (same : K → K → Bool) : Type 0 where
 pub none-some : {X : Type 0} {x : X} → None ≡ Some x → ⊥
 none-some e = let z : _≡_ {A = ℕ} 0 1 = cc in omega arith
 
-some-one : {X : Type 0} {x y : X} → Some x ≡ Some y → x ≡ y
+pub some-one : {X : Type 0} {x y : X} → Some x ≡ Some y → x ≡ y
 some-one e = cc
 
 -- A test that cannot be true is false.
@@ -213,7 +213,7 @@ module _ {R K : Type 0} (key : R → K) (same : K → K → Bool) where
     kept-at (p ∷ ps) (suc i) = kept-at ps i
 
     -- What is left was there, and is not past.
-    left-was : (p : Option R) (r : R) → not-past last tick p ≡ Some r → (p ≡ Some r) × (tick ≤ last r)
+    pub left-was : (p : Option R) (r : R) → not-past last tick p ≡ Some r → (p ≡ Some r) × (tick ≤ last r)
     left-was None r e = absurd (none-some e)
     left-was (Some s) r e =
         ⊎-elim

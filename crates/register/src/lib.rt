@@ -8,7 +8,7 @@ ghost use Rattle.std.specs.Options.{Cases, isSome};
 ghost use Rattle.register.specs.Places.{lookup, Found, Place-of, held-count, count-not-past, Empty, Put, Removed, Dropped};
 
 mod places;
-pub mod record;
+mod record;
 
 use places::clear;
 use places::count_held;
@@ -18,8 +18,8 @@ use places::free_place;
 use places::front;
 use places::place_of;
 use places::record_under;
-use record::Ending;
-use record::Keyed;
+pub use record::Ending;
+pub use record::Keyed;
 
 // Records of one kind, each in a place of its own, no key twice.
 // What it promises of keys holds wherever a record lies.
@@ -44,7 +44,7 @@ impl<'a, R: Keyed> Register<'a, R> {
     pub fn places(&self) -> &[Option<R>]
         ensures { λ r. ⌜ now r ≡ now (now (self .entry) .places) ⌝ }
     {
-        &*self.places
+        &self.places[..]
     }
 
     // How many records it can hold.
@@ -130,3 +130,6 @@ impl<'a, R: Ending> Register<'a, R> {
         drop_past(&mut *self.places, tick);
     }
 }
+
+#[cfg(test)]
+mod tests;

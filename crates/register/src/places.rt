@@ -2,7 +2,7 @@
 ghost use mathlib.Core.Path.{_≡_};
 ghost use mathlib.Core.Bool.{true};
 ghost use mathlib.Core.List.{map};
-ghost use Prim.Native.Nat.{ℕ, _<_};
+ghost use Prim.Native.Nat.{ℕ, _<_, _≤_, min};
 ghost use lib.ListN.{length, getD, take, drop};
 ghost use Rattle.std.specs.declared.option.Option.the-variants.{None};
 ghost use Rattle.std.specs.Options.{Cases, isSome};
@@ -48,7 +48,8 @@ pub(crate) fn free_place<R: Copy>(places: &[Option<R>]) -> Option<usize>
 
 // How many places hold a record.
 pub(crate) fn count_held<R: Copy>(places: &[Option<R>]) -> usize
-    ensures { λ r. ⌜ r ≡ held-count (now (places .entry)) ⌝ }
+    ensures held { λ r. ⌜ r ≡ held-count (now (places .entry)) ⌝ }
+    ensures within { λ r. ⌜ r ≤ length (now (places .entry)) ⌝ }
 {
     let mut count = 0;
     for place in places {
@@ -91,21 +92,27 @@ pub(crate) fn drop_past<R: Ending>(places: &mut [Option<R>], tick: u64)
     }
 }
 
-// Empties the places up to the kind's bound, and leaves those beyond as they are.
+// How many of the places lent a register uses: the kind's bound at most.
+fn used<R: Keyed>(lent: usize) -> usize
+    ensures { λ r. ⌜ r ≡ min lent (R·Keyed .most) ⌝ }
+{
+    lent.min(R::most_places())
+}
+
+// Empties the places that a register uses, and leaves those beyond as they are.
 pub(crate) fn clear<R: Keyed>(places: &mut [Option<R>])
     ensures emptied { λ _. ⌜ ((i : ℕ) → i < R·Keyed .most → getD (now (places .exit)) i None ≡ None) ⌝ }
     ensures beyond { λ _. ⌜ drop (R·Keyed .most) (now (places .exit)) ≡ drop (R·Keyed .most) (now (places .entry)) ⌝ }
 {
-    let used = places.len().min(R::most_places());
-    for i in 0..used {
+    for i in 0..used::<R>(places.len()) {
         places[i] = None;
     }
 }
 
-// The places up to the kind's bound: a register has no hold of those beyond.
+// The places that a register uses: it has no hold of those beyond.
 pub(crate) fn front<R: Keyed>(places: &mut [Option<R>]) -> &mut [Option<R>]
     ensures { λ r. ⌜ now r ≡ take (R·Keyed .most) (now (places .entry)) ⌝ }
 {
-    let used = places.len().min(R::most_places());
-    &mut places[0..used]
+    let end = used::<R>(places.len());
+    &mut places[0..end]
 }

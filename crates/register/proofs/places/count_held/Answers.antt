@@ -1,4 +1,4 @@
-use mathlib.Core.Path.{ap, _∙_}
+use mathlib.Core.Path.{_≡_, ap, _∙_}
 use native.Mathlib.Omega.{arith}
 use lib.ListN.{take}
 use Rattle.std.specs.Options.{isSome}
@@ -27,4 +27,7 @@ loop-place-again g c =
     ]
 
 pub returns : need.returns
-returns g c = c .loop-place .inv ∙ ap held-count (take-all _ _ (c .loop-place-test .left))
+returns g c =
+    let ps = c .args .places .now in
+    let held : c .loop-place .count ≡ held-count ps = c .loop-place .inv ∙ ap held-count (take-all _ _ (c .loop-place-test .left)) in
+    record { held = held; within = omega (arith, countBy-le-length isSome ps) }
