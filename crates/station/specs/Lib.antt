@@ -1,4 +1,6 @@
 pub mod Admit
+pub mod Clock
+pub mod Install
 pub mod Records
 pub mod Revoke
 pub mod States

@@ -5,8 +5,8 @@ ghost use Prim.Native.Nat.{ℕ, _-_};
 ghost use lib.Dec.{eqb};
 ghost use Rattle.station.specs.Records.{association-key, same-association, live, same-heard};
 use banks::keys::Key;
-use register::record::Ending;
-use register::record::Keyed;
+use register::Ending;
+use register::Keyed;
 
 // How a station deals with a network: without MAPsec, or with it.
 #[derive(Clone, Copy)]

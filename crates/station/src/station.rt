@@ -2,12 +2,22 @@
 ghost use mathlib.Core.Path.{_≡_};
 ghost use Rattle.rules.specs.Checks.{decided};
 ghost use Rattle.station.specs.Admit.{Admitted};
+ghost use Rattle.station.specs.Clock.{clock-checks};
+ghost use Rattle.station.specs.Install.{field-checks, place-checks, Installed};
 ghost use Rattle.station.specs.Revoke.{Revoked};
 ghost use Rattle.station.specs.States.{contents-of};
 use crate::records::AssociationKey;
 use crate::records::Policy;
+use crate::records::SecurityAssociation;
+use crate::records::SecurityAssociationEnding;
+use crate::records::SecurityAssociationKeyed;
 use crate::records::Stance;
 use crate::registers::Registers;
+use banks::cipher::CipherBank;
+use banks::tag::TagBank;
+use register::Ending;
+use register::Keyed;
+use rules::refusal::AssociationField;
 use rules::refusal::PolicyField;
 use rules::refusal::Refusal;
 use rules::settings::Settings;
@@ -60,4 +70,68 @@ impl Station {
         }
         Err(Refusal::KeyNotHeld)
     }
+
+    // The reading is in range, and not before the latest.
+    fn clock(&self, reading: u64) -> Result<(), Refusal>
+        ensures { λ r. ⌜ r ≡ decided (clock-checks (now (self .entry) .latest) reading) tt ⌝ }
+    {
+        if (reading >= 281_474_976_710_656) | (reading < self.latest) {
+            return Err(Refusal::WrongReading);
+        }
+        Ok(())
+    }
+
+    // The fields of an association, in their order.
+    fn fields<C: CipherBank, T: TagBank>(&self, ciphers: &C, tags: &T, reading: u64, a: &SecurityAssociation) -> Result<(), Refusal>
+        ensures { λ r. ⌜ r ≡ decided (field-checks (now (self .entry) .settings .own) (C·CipherBank .means (now (ciphers .entry))) (T·TagBank .means (now (tags .entry))) reading (now (a .entry))) tt ⌝ }
+    {
+        let own = self.settings.own();
+        if (a.sender >= 16_777_216) | ((a.sender != own) & (a.destination != own)) {
+            return Err(Refusal::WrongAssociation { field: AssociationField::Sender });
+        }
+        if a.destination >= 16_777_216 {
+            return Err(Refusal::WrongAssociation { field: AssociationField::Destination });
+        }
+        if !ciphers.knows(a.mea) {
+            return Err(Refusal::WrongAssociation { field: AssociationField::Mea });
+        }
+        if !tags.knows(a.mia) {
+            return Err(Refusal::WrongAssociation { field: AssociationField::Mia });
+        }
+        if a.soft > a.hard {
+            return Err(Refusal::WrongAssociation { field: AssociationField::SoftExpiry });
+        }
+        if (a.hard <= reading) || (a.hard - reading > 2_147_483_648) {
+            return Err(Refusal::WrongAssociation { field: AssociationField::HardExpiry });
+        }
+        Ok(())
+    }
+
+    // Adds a security association.
+    pub fn install<C: CipherBank, T: TagBank>(&mut self, registers: &mut Registers<'_>, ciphers: &C, tags: &T, reading: u64, association: SecurityAssociation) -> Result<(), Refusal>
+        ensures { λ r. ⌜ Installed (C·CipherBank .means (now (ciphers .entry))) (T·TagBank .means (now (tags .entry))) reading association (now (self .entry)) (now (self .exit)) (contents-of (now (registers .entry))) (contents-of (now (registers .exit))) r ⌝ }
+    {
+        self.clock(reading)?;
+        self.fields(ciphers, tags, reading, &association)?;
+        place_for(registers, reading, &association)?;
+        registers.add_association(association, reading);
+        self.latest = reading;
+        Ok(())
+    }
+}
+
+// The key is free, and a place is.
+fn place_for(registers: &Registers<'_>, reading: u64, association: &SecurityAssociation) -> Result<(), Refusal>
+    ensures { λ r. ⌜ r ≡ decided (place-checks reading (now (association .entry)) (now (now (registers .entry) .associations .places))) tt ⌝ }
+{
+    if let Some(held) = registers.association(association.key_of()) {
+        if held.last_tick() >= reading {
+            return Err(Refusal::KeyHeld);
+        }
+    }
+    let capacity = registers.association_capacity();
+    if registers.live_associations(reading) >= capacity {
+        return Err(Refusal::RegisterFull { capacity });
+    }
+    Ok(())
 }
