@@ -1,1 +1,2 @@
 pub mod Installs
+pub mod Preferences

@@ -1,4 +1,5 @@
 pub mod Admit
+pub mod Choice
 pub mod Clock
 pub mod Install
 pub mod Records

@@ -1,4 +1,5 @@
 // A MAPsec station: its records, its registers and its calls.
+mod choice;
 pub mod records;
 pub mod registers;
 pub mod station;

@@ -66,6 +66,13 @@ impl<'a> Registers<'a> {
         self.policies.capacity()
     }
 
+    // The places of the associations, for who looks at all of them.
+    pub(crate) fn association_places(&self) -> &[Option<SecurityAssociation>]
+        ensures { λ r. ⌜ now r ≡ now (now (self .entry) .associations .places) ⌝ }
+    {
+        self.associations.places()
+    }
+
     // How many associations have a last tick that is not before the reading.
     pub fn live_associations(&self, reading: u64) -> usize
         ensures { λ r. ⌜ r ≡ live-count reading (now (now (self .entry) .associations .places)) ⌝ }
