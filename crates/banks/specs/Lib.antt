@@ -3,3 +3,4 @@ pub mod Ciphers
 pub mod Tags
 pub mod Mea1
 pub mod Mia1
+pub mod Running

@@ -2,5 +2,6 @@
 pub mod cipher;
 mod counter;
 pub mod keys;
+mod mac;
 pub mod pair;
 pub mod tag;
