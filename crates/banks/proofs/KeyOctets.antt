@@ -67,8 +67,8 @@ pub number-rest : (w i : ℕ) (xs : List ℕ) → length xs ≡ i + w → number
 number-rest w i xs e =
     ap number (sym (take-all w (drop i xs) (omega (arith, length-drop i xs)))) ∙ number-part w i xs (omega arith)
 
--- the first four octets of a key, as a number
-pub lead-is : (k : Key) (xs : List ℕ) → xs ≡ key-octets k
-    → getD xs 0 0 * 16777216 + getD xs 1 0 * 65536 + getD xs 2 0 * 256 + getD xs 3 0 ≡ number (take 4 (key-octets k))
+-- the first four octets, as a number
+pub four-is : (xs : List ℕ) → 4 ≤ length xs
+    → getD xs 0 0 * 16777216 + getD xs 1 0 * 65536 + getD xs 2 0 * 256 + getD xs 3 0 ≡ number (take 4 xs)
 unfolding weighted
-lead-is k xs e = rw e (omega (arith, number-part 4 0 (key-octets k) (omega (arith, length-key k))))
+four-is xs h = omega (arith, number-part 4 0 xs h)

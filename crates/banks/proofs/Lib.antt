@@ -2,3 +2,4 @@ pub mod Numbers
 pub mod KeyOctets
 pub mod Laws
 pub mod Stream
+pub mod Chaining

@@ -36,18 +36,18 @@ blocks (suc n) xs = take 16 xs ∷ blocks n (drop 16 xs)
 abbrev pub xor-blocks : List ℕ → List ℕ → List ℕ
 xor-blocks xs ys = map (λ j. bitXor (getD xs j 0) (getD ys j 0)) (counting 0 16)
 
--- the chain: each block is added to the value before it, and enciphered
-unfoldable pub chain : List ℕ → List ℕ → List (List ℕ) → List ℕ
-chain key h [] = h
-chain key h (b ∷ bs) = chain key (aes128 key (xor-blocks h b)) bs
+-- the chain under a block cipher: each block is added to the value before it, and enciphered
+unfoldable pub chain : (List ℕ → List ℕ) → List ℕ → List (List ℕ) → List ℕ
+chain e h [] = h
+chain e h (b ∷ bs) = chain e (e (xor-blocks h b)) bs
 
 -- the value of the chain after all blocks of the padded octets, from zero
-unfoldable pub mac : List ℕ → List ℕ → List ℕ
-mac key xs = chain key (replicate 16 0) (blocks (mac-blocks (length xs)) (padded xs))
+unfoldable pub mac : (List ℕ → List ℕ) → List ℕ → List ℕ
+mac e xs = chain e (replicate 16 0) (blocks (mac-blocks (length xs)) (padded xs))
 
 -- the tag: its first four octets, as a number
 unfoldable pub mia1 : Key → List ℕ → ℕ
-mia1 key xs = number (take 4 (mac (key-octets key) xs))
+mia1 key xs = number (take 4 (mac (aes128 (key-octets key)) xs))
 
 -- MIA-1 is tag number 1
 abbrev pub mia1-tag : Tags

@@ -4,8 +4,10 @@ ghost use mathlib.Core.Path.{_≡_};
 ghost use Prim.Native.Nat.{_+_, _%_, _^_};
 ghost use Rattle.std.specs.Options.{isSome};
 ghost use Rattle.std.specs.shelf.Lists.{sum};
+ghost use Rattle.banks.specs.Mia1.{mia1-tag, Padding};
 ghost use Rattle.banks.specs.Tags.{Tags, LawfulTags, tagged, test-tag};
 use crate::keys::Key;
+use crate::mac::mac;
 
 // A bank of tags: under a number from 0 to 15 it has a tag or none. A tag takes key and octets to 32 bits.
 pub trait TagBank {
@@ -23,6 +25,31 @@ pub trait TagBank {
         ensures stays { λ _. ⌜ means (now (self .exit)) ≡ means (now (self .entry)) ⌝ }
         ensures tagged { λ r. ⌜ r ≡ tagged (means (now (self .entry))) number (now (key .entry)) (now (first .entry) ++ now (second .entry)) ⌝ };
 }
+
+// MIA-1, number 1: CBC-MAC over AES-128, always padded, the first four octets.
+#[derive(Clone, Copy)]
+pub struct Mia1;
+
+pub impl TagBank for Mia1 as Mia1Bank {
+    ghost means = { λ _. mia1-tag };
+
+    fn knows(&self, number: u8) -> bool {
+        number == 1
+    }
+
+    fn tag(&mut self, number: u8, key: &Key, first: &[u8], second: &[u8]) -> u32 {
+        if number == 1 {
+            mac(key, first, second)
+        } else {
+            0
+        }
+    }
+}
+
+// The padding of MIA-1 goes to the least multiple of 16 above the length.
+pub fn padding_stands()
+    ensures { λ _. ⌜ Padding ⌝ }
+{}
 
 // A tag for tests, number 15: the sum of the octets and of the key's first four octets as a number, modulo 2^32.
 #[derive(Clone, Copy)]
