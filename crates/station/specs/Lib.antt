@@ -4,4 +4,5 @@ pub mod Clock
 pub mod Install
 pub mod Records
 pub mod Revoke
+pub mod Seal
 pub mod States

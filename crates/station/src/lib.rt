@@ -1,5 +1,7 @@
 // A MAPsec station: its records, its registers and its calls.
 mod choice;
 pub mod records;
+
 pub mod registers;
+mod seal;
 pub mod station;
