@@ -71,10 +71,10 @@ module _ {R K : Type 0} (key : R → K) (same : K → K → Bool) (laws : Equiva
     apart = λ apart. apart;
   }
 
-  pub drops : (last : R → ℕ) (tick : ℕ) → Dropped key same last tick ps (map (not-past last tick) ps)
-  drops last tick = record {
+  pub drops : (last : R → ℕ) (tick : ℕ) (after : List (Option R)) → after ≡ map (not-past last tick) ps → Dropped key same last tick ps after
+  drops last tick after is = subst (Dropped key same last tick ps) (sym is) (record {
     left = drop-lookup key same last tick laws ps;
     counted = count-map isSome (not-past last tick) ps;
     length-kept = length-map ps (not-past last tick);
     apart = drop-apart key same last tick ps;
-  }
+  })

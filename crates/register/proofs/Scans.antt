@@ -3,11 +3,12 @@ use mathlib.Core.Path.{_≡_, refl, sym, ap, _∙_}
 use mathlib.Core.List.{List, _++_, map}
 use mathlib.Core.Bool.{Bool, true, false}
 use Prim.Native.Nat.{ℕ, _+_, _<_, _≤_}
-use lib.ListN.{length, getD, take, drop}
+use lib.ListN.{length, getD, set, take, drop}
 use Rattle.std.specs.Options.{isSome}
 use Rattle.std.specs.shelf.Lists.{countBy}
 use Rattle.std.specs.declared.option.Option.{Option}
 use Rattle.std.specs.declared.option.Option.the-variants.{Some, None}
+use Rattle.std.proofs.shelf.Edits.{map-over-more}
 use Rattle.std.proofs.shelf.Lists.{at-drop-more, at-drop-all, take-all, drop-all, append-nil}
 use Rattle.std.proofs.shelf.Sums.{countBy-more-yes, countBy-more-no}
 use Rattle.std.proofs.shelf.Tests.{cond-true, cond-false, true≢false}
@@ -44,6 +45,9 @@ pub none-from : {X : Type 0} (p : Option X) → isSome p ≡ false → p ≡ Non
 none-from None e = refl
 none-from (Some x) e = absurd (true≢false e)
 
--- A loop that has written f over each element.
+-- A loop that writes f over each element, at one turn and at its end.
+pub over-more : {X : Type 0} (f : X → X) (xs ys : List X) (i : ℕ) {x y : X} → i < length xs → ys ≡ map f (take i xs) ++ drop i xs → x ≡ getD ys i x → y ≡ f (getD ys i x) → set ys i y ≡ map f (take (i + 1) xs) ++ drop (i + 1) xs
+over-more f xs ys i {x} l inv is e = ap (set ys i) (e ∙ ap f (sym is)) ∙ map-over-more f xs ys i x l inv is
+
 pub over-all : {X : Type 0} (f : X → X) (xs ys : List X) (i : ℕ) → length xs ≤ i → ys ≡ map f (take i xs) ++ drop i xs → ys ≡ map f xs
 over-all f xs ys i l inv = inv ∙ rw (take-all i xs l, drop-all i xs l, append-nil)
