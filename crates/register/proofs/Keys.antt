@@ -1,7 +1,6 @@
 -- Sameness of keys made of parts: each kind of record builds its own from these.
-use mathlib.Core.Path.{_≡_, refl, sym, _∙_}
-use mathlib.Core.Bool.{Bool, true, _&&_}
-use Prim.Native.Nat.{ℕ}
+use mathlib.Core.Path.{refl, sym, _∙_}
+use mathlib.Core.Bool.{Bool, _&&_}
 use lib.Dec.{eqb}
 use Rattle.std.proofs.shelf.Tests.{eq-eqb, eqb-true, and-parts, and-from}
 use Rattle.register.proofs.Lookups.{Equivalence}

@@ -12,7 +12,7 @@ use Rattle.std.specs.declared.option.Option.{Option}
 use Rattle.std.specs.declared.option.Option.the-variants.{Some, None}
 use Rattle.std.proofs.shelf.Lists.{getD-set-same, getD-set-other}
 use Rattle.std.proofs.shelf.Tests.{cases-bool, cases-eq, cases-order, both-ways, cond-true, cond-false, ltb-false, ltb-true}
-use Rattle.register.specs.Places.{Holds, Twice, Apart, Found, pick, lookup, held-count, not-past, Empty}
+use Rattle.register.specs.Places.{Holds, Twice, Apart, Found, lookup, held-count, not-past, Empty}
 use Rattle.register.proofs.Counts.{count-none}
 
 -- What a kind of record owes of the sameness of its keys.

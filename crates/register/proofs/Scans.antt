@@ -14,6 +14,7 @@ use Rattle.std.proofs.shelf.Sums.{countBy-more-yes, countBy-more-no}
 use Rattle.std.proofs.shelf.Tests.{cond-true, cond-false, true≢false}
 use Rattle.register.specs.Places.{pick, lookup}
 
+-- Counting: a place that passes the test adds one, another none.
 module _ {X : Type 0} (test : X → Bool) (xs : List X) (i : ℕ) {x : X} (l : i < length xs) (is : x ≡ getD xs i x) where
   pub counts : true ≡ test x → countBy test (take (i + 1) xs) ≡ countBy test (take i xs) + 1
   counts t = countBy-more-yes test xs i x l (ap test (sym is) ∙ sym t)
@@ -21,6 +22,7 @@ module _ {X : Type 0} (test : X → Bool) (xs : List X) (i : ℕ) {x : X} (l : i
   pub passes : false ≡ test x → countBy test (take (i + 1) xs) ≡ countBy test (take i xs)
   passes f = countBy-more-no test xs i x l (ap test (sym is) ∙ sym f)
 
+-- Seeking a key: what stands under it stands at i or after.
 module _ {R K : Type 0} (key : R → K) (same : K → K → Bool) (k : K) (ps : List (Option R)) (i : ℕ) (inv : lookup key same k ps ≡ lookup key same k (drop i ps)) where
   module _ {p : Option R} (l : i < length ps) (is : p ≡ getD ps i p) where
     at : {q : Option R} → p ≡ q → lookup key same k ps ≡ pick key same k q (lookup key same k (drop (i + 1) ps))
