@@ -3,17 +3,17 @@ use mathlib.Core.Path.{_≡_, refl, sym, ap, subst, _∙_}
 use mathlib.Core.List.{List, map}
 use mathlib.Core.Bool.{Bool, true, false, cond, _||_}
 use mathlib.Core.Logic.{⊎-elim}
-use Prim.Native.Nat.{ℕ, _+_, _<_}
+use Prim.Native.Nat.{ℕ, _+_}
 use native.Mathlib.Omega.{arith}
 use lib.Dec.{ltb}
-use lib.ListN.{length, getD, set}
+use lib.ListN.{length, set}
 use Rattle.std.specs.Options.{isSome}
 use Rattle.std.specs.declared.option.Option.{Option}
 use Rattle.std.specs.declared.option.Option.the-variants.{Some, None}
 use Rattle.std.proofs.shelf.Lists.{length-set, length-map}
 use Rattle.std.proofs.shelf.Sums.{sumBy-set}
-use Rattle.std.proofs.shelf.Tests.{cases-bool, true≢false, cond-true, cond-false, lt-ltb, or-left, or-right}
-use Rattle.register.specs.Places.{Apart, lookup, Place-of, held-count, not-past, Put, Removed, Dropped}
+use Rattle.std.proofs.shelf.Tests.{cases-bool, true≢false, cond-true, lt-ltb, or-left, or-right}
+use Rattle.register.specs.Places.{lookup, Place-of, held-count, not-past, Put, Removed, Dropped}
 use Rattle.register.proofs.Counts.{count-missing, count-map}
 use Rattle.register.proofs.Lookups.{Equivalence, none-some, lookup-absent, write-apart, write-lookup, drop-apart, drop-lookup}
 
@@ -71,10 +71,10 @@ module _ {R K : Type 0} (key : R → K) (same : K → K → Bool) (laws : Equiva
     apart = λ apart. apart;
   }
 
-  pub drops : (last : R → ℕ) (tick : ℕ) → Dropped key same last tick ps (map (not-past last tick) ps)
-  drops last tick = record {
+  pub drops : (last : R → ℕ) (tick : ℕ) (after : List (Option R)) → after ≡ map (not-past last tick) ps → Dropped key same last tick ps after
+  drops last tick after is = subst (Dropped key same last tick ps) (sym is) (record {
     left = drop-lookup key same last tick laws ps;
     counted = count-map isSome (not-past last tick) ps;
     length-kept = length-map ps (not-past last tick);
     apart = drop-apart key same last tick ps;
-  }
+  })

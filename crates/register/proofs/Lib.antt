@@ -1,5 +1,6 @@
 pub mod Changes
 pub mod Counts
+pub mod Keys
 pub mod Lookups
 pub mod Members
 mod Fronts

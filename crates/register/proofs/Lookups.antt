@@ -12,7 +12,7 @@ use Rattle.std.specs.declared.option.Option.{Option}
 use Rattle.std.specs.declared.option.Option.the-variants.{Some, None}
 use Rattle.std.proofs.shelf.Lists.{getD-set-same, getD-set-other}
 use Rattle.std.proofs.shelf.Tests.{cases-bool, cases-eq, cases-order, both-ways, cond-true, cond-false, ltb-false, ltb-true}
-use Rattle.register.specs.Places.{Holds, Twice, Apart, Found, pick, lookup, held-count, not-past, Empty}
+use Rattle.register.specs.Places.{Holds, Twice, Apart, Found, lookup, held-count, not-past, Empty}
 use Rattle.register.proofs.Counts.{count-none}
 
 -- What a kind of record owes of the sameness of its keys.
@@ -65,11 +65,14 @@ module _ {R K : Type 0} (key : R → K) (same : K → K → Bool) where
       (found-more k (Some r) ps (lookup key same k ps) (λ s e. subst (λ x. same k (key x) ≡ false) (some-one e) f) (found k ps)))
       (cases-bool (same k (key r)))
 
+  pub found-is : (k : K) (ps : List (Option R)) (o : Option R) → o ≡ lookup key same k ps → Found key same k ps o
+  found-is k ps o e = subst (Found key same k ps) (sym e) (found k ps)
+
   pub lookup-some : (k : K) (ps : List (Option R)) (r : R) → lookup key same k ps ≡ Some r → Holds ps r × (same k (key r) ≡ true)
-  lookup-some k ps r e = subst (Found key same k ps) e (found k ps)
+  lookup-some k ps r e = found-is k ps (Some r) (sym e)
 
   pub lookup-none : (k : K) (ps : List (Option R)) → lookup key same k ps ≡ None → (r : R) → Holds ps r → same k (key r) ≡ false
-  lookup-none k ps e = subst (Found key same k ps) e (found k ps)
+  lookup-none k ps e = found-is k ps None (sym e)
 
   -- Places without a record.
   module _ (ps : List (Option R)) (free : (i : ℕ) → getD ps i None ≡ None) where

@@ -30,6 +30,7 @@ pub struct Register<'a, R: Copy> {
 
 impl<'a, R: Keyed> Register<'a, R> {
     // An empty register in the places lent, of which it uses the kind's bound at most.
+    // Those beyond stay as they are: `clear` promises it, and `front` lends the register no hold of them.
     pub fn new(places: &'a mut [Option<R>]) -> Register<'a, R>
         ensures empty { λ r. ⌜ Empty (R·Keyed .key) (R·Keyed .same) (now (r .places)) ⌝ }
         ensures capacity { λ r. ⌜ length (now (r .places)) ≡ min (length (now (places .entry))) (R·Keyed .most) ⌝ }

@@ -1,7 +1,5 @@
 // Bookings of seats: a small kind of record, with a key of two fields and a bound of three places.
-ghost use mathlib.Core.Path.{_≡_};
-ghost use mathlib.Core.Bool.{Bool, true, _&&_};
-ghost use Prim.Native.Nat.{ℕ};
+ghost use mathlib.Core.Bool.{_&&_};
 ghost use lib.Dec.{eqb};
 use crate::Ending;
 use crate::Keyed;

@@ -25,10 +25,11 @@ loop-place-again g c =
     let i = c .loop-place .place-index in
     let is = c .place-item .is in
     let l = c .loop-place-test .taken in
+    let kept = isSome (c .not-past .result) in
     let left = ap isSome (c .not-past .ensures) in
     elim (c .if-is-some .came) [
-      | then-is-some w ↦ omega (arith, w .count-is, c .loop-place .inv, counts test ps i l is (w .if-is-some .ensures tt ∙ left))
-      | else-is-some w ↦ omega (arith, w .count-is, c .loop-place .inv, passes test ps i l is (w .if-is-some .ensures tt ∙ left))
+      | then-is-some w ↦ omega (arith, w .count-is, c .loop-place .inv, counts test ps i l is (_∙_ {b = kept} (w .if-is-some .ensures tt) left))
+      | else-is-some w ↦ omega (arith, w .count-is, c .loop-place .inv, passes test ps i l is (_∙_ {b = kept} (w .if-is-some .ensures tt) left))
     ]
 
 pub returns : need.returns

@@ -1,4 +1,3 @@
-use mathlib.Core.Path.{ap, _∙_}
 use native.Mathlib.Omega.{arith}
 use Rattle.register.proofs.Fronts.{take-used}
 use Rattle.register.proofs.places.front.Needs as need
