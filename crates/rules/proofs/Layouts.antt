@@ -76,6 +76,16 @@ sealed-laid xs o h =
     let whole = take-append-drop 20 xs in
     cc
 
+-- LENGTHS
+
+pub length-open-header : (h : SecurityHeader) → length (open-header h) ≡ 6
+unfolding open-header octets-of
+length-open-header h = refl
+
+pub length-sealed-header : (h : SecurityHeader) (f : IvFields) → length (sealed-header h f) ≡ 20
+unfolding open-header iv-part octets-of
+length-sealed-header h f = refl
+
 -- READING WHAT WAS LAID OUT
 
 back : (w n : ℕ) → n < 256 ^ w → number (octets-of w n) ≡ n
@@ -88,18 +98,13 @@ module _ (h : SecurityHeader) (fits : Header-fits h) where
   header-back rest = ap (λ n. record { spi = n; component = h .component }) (back 4 (h .spi) (fits .spi))
 
   open-long : (payload : List ℕ) → length (open-message h payload) ≡ 6 + length payload
-  unfolding open-header octets-of
-  open-long payload = omega arith
+  open-long payload = length-append (open-header h) payload ∙ ap (λ n. n + length payload) (length-open-header h)
 
   open-undone : (payload : List ℕ) → Open-undone h payload
   unfolding open-header octets-of
   open-undone payload = record { header = header-back payload; payload-is = refl; long = open-long payload }
 
   module _ (f : IvFields) (fields-fit : Fields-fit f) where
-    length-front : length (sealed-header h f) ≡ 20
-    unfolding open-header iv-part octets-of
-    length-front = refl
-
     fields-back : (rest : List ℕ) → fields-in (sealed-header h f ++ rest) ≡ f
     unfolding open-header iv-part octets-of
     fields-back rest =
@@ -118,7 +123,7 @@ module _ (h : SecurityHeader) (fits : Header-fits h) where
       grouped = sym (append-assoc (sealed-header h f) payload (octets-of 4 tag))
 
       length-covered : length covered-octets ≡ 20 + length payload
-      length-covered = length-append (sealed-header h f) payload ∙ ap (λ n. n + length payload) length-front
+      length-covered = length-append (sealed-header h f) payload ∙ ap (λ n. n + length payload) (length-sealed-header h f)
 
       long : length xs ≡ 24 + length payload
       long =
@@ -132,7 +137,7 @@ module _ (h : SecurityHeader) (fits : Header-fits h) where
           record {
             header = ap header-in (append-assoc (open-header h) (iv-part f) (payload ++ octets-of 4 tag)) ∙ header-back (iv-part f ++ (payload ++ octets-of 4 tag));
             fields = fields-back (payload ++ octets-of 4 tag);
-            payload-is = ap (λ n. take n (drop 20 xs)) size ∙ ap (take (length payload)) (drop-at (sealed-header h f) (payload ++ octets-of 4 tag) 20 length-front) ∙ take-at payload (octets-of 4 tag) (length payload) refl;
+            payload-is = ap (λ n. take n (drop 20 xs)) size ∙ ap (take (length payload)) (drop-at (sealed-header h f) (payload ++ octets-of 4 tag) 20 (length-sealed-header h f)) ∙ take-at payload (octets-of 4 tag) (length payload) refl;
             tag-is = ap (λ n. number (part n 4 xs)) end ∙ ap (λ ys. number (part (length covered-octets) 4 ys)) grouped ∙ ap (λ ys. number (take 4 ys)) (drop-at covered-octets (octets-of 4 tag) (length covered-octets) refl) ∙ ap number (take-all 4 (octets-of 4 tag) (omega (arith, length-octets 4 tag))) ∙ back 4 tag tag-fits;
             covered = ap (λ n. take n xs) end ∙ ap (take (length covered-octets)) grouped ∙ take-at covered-octets (octets-of 4 tag) (length covered-octets) refl;
             long = long;

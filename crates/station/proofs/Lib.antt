@@ -1,2 +1,4 @@
 pub mod Installs
 pub mod Preferences
+pub mod Turns
+pub mod Writes

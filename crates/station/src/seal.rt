@@ -31,8 +31,8 @@ pub(crate) fn write_open(header: SecurityHeader, cleartext: &[u8], message: &mut
     requires { ⌜ length (now message) ≡ 6 + length (now cleartext) ⌝ }
     ensures { λ _. ⌜ now (message .exit) ≡ open-message header (now (cleartext .entry)) ⌝ }
 {
-    message[0..6].copy_from_slice(&header.open_octets());
     let end = message.len();
+    message[0..6].copy_from_slice(&header.open_octets());
     message[6..end].copy_from_slice(cleartext);
 }
 
