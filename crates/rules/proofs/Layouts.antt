@@ -71,7 +71,7 @@ sealed-laid xs o h =
     let tag = octets-part xs (n - 4) 4 o (omega arith) in
     let place : 20 + (n - 24) ≡ n - 4 = omega arith in
     let back : part 20 (n - 20) xs ≡ part 20 (n - 24) xs ++ part (n - 4) 4 xs =
-        ap (λ k. part 20 k xs) (omega arith) ∙ part-joins xs 20 (n - 24) 4 ∙ ap (λ k. part 20 (n - 24) xs ++ part k 4 xs) place in
+    ap (λ k. part 20 k xs) (omega arith) ∙ part-joins xs 20 (n - 24) 4 ∙ ap (λ k. part 20 (n - 24) xs ++ part k 4 xs) place in
     let rest = take-rest xs 20 in
     let whole = take-append-drop 20 xs in
     cc

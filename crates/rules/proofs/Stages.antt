@@ -20,8 +20,8 @@ module _ {R : Type 0} where
   first-stops [] ds r e = absurd (let z : _≡_ {A = ℕ} 0 1 = cc in omega arith)
   first-stops (c ∷ cs) ds r e =
       elim (c .0) as (λ b. cond b (Some (c .1)) (first cs) ≡ Some r → cond b (Some (c .1)) (first (cs ++ ds)) ≡ Some r) [
-        true ↦ λ h. h
-      | false ↦ λ h. first-stops cs ds r h
+        | true ↦ λ h. h
+        | false ↦ λ h. first-stops cs ds r h
       ] e
 
   -- where the first checks refuse nothing, the others decide
@@ -29,8 +29,8 @@ module _ {R : Type 0} where
   first-passes [] ds e = refl
   first-passes (c ∷ cs) ds e =
       elim (c .0) as (λ b. cond b (Some (c .1)) (first cs) ≡ None → cond b (Some (c .1)) (first (cs ++ ds)) ≡ first ds) [
-        true ↦ λ h. absurd (let z : _≡_ {A = ℕ} 0 1 = cc in omega arith)
-      | false ↦ λ h. first-passes cs ds h
+        | true ↦ λ h. absurd (let z : _≡_ {A = ℕ} 0 1 = cc in omega arith)
+        | false ↦ λ h. first-passes cs ds h
       ] e
 
   -- where nothing is refused no test holds, and the other way round
@@ -38,8 +38,8 @@ module _ {R : Type 0} where
   none-holds [] e = tt
   none-holds (c ∷ cs) e =
       elim (c .0) as (λ b. cond b (Some (c .1)) (first cs) ≡ None → (b ≡ false) × None-holds cs) [
-        true ↦ λ h. absurd (let z : _≡_ {A = ℕ} 0 1 = cc in omega arith)
-      | false ↦ λ h. (refl, none-holds cs h)
+        | true ↦ λ h. absurd (let z : _≡_ {A = ℕ} 0 1 = cc in omega arith)
+        | false ↦ λ h. (refl, none-holds cs h)
       ] e
 
   pub first-none : (cs : List (Bool × R)) → None-holds cs → first cs ≡ None
@@ -51,15 +51,15 @@ module _ {R : Type 0} where
     pub refused : (cs : List (Bool × R)) (v : V) (r : R) → Err r ≡ decided cs v → first cs ≡ Some r
     refused cs v r e =
         elim (first cs) as (λ o. Err r ≡ or-else o v → o ≡ Some r) [
-          Some s ↦ λ h. (let same : s ≡ r = cc in ap Some same)
-        | None ↦ λ h. absurd (let z : _≡_ {A = ℕ} 0 1 = cc in omega arith)
+          | Some s ↦ λ h. (let same : s ≡ r = cc in ap Some same)
+          | None ↦ λ h. absurd (let z : _≡_ {A = ℕ} 0 1 = cc in omega arith)
         ] e
 
     pub accepted : (cs : List (Bool × R)) (u v : V) → Ok u ≡ decided cs v → (first cs ≡ None) × (u ≡ v)
     accepted cs u v e =
         elim (first cs) as (λ o. Ok u ≡ or-else o v → (o ≡ None) × (u ≡ v)) [
-          Some s ↦ λ h. absurd (let z : _≡_ {A = ℕ} 0 1 = cc in omega arith)
-        | None ↦ λ h. (let same : u ≡ v = cc in (refl, same))
+          | Some s ↦ λ h. absurd (let z : _≡_ {A = ℕ} 0 1 = cc in omega arith)
+          | None ↦ λ h. (let same : u ≡ v = cc in (refl, same))
         ] e
 
     -- the value of a stage that passed

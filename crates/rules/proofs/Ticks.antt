@@ -40,9 +40,9 @@ near back ahead reading stamp small t old early =
 pub window-decides : (back ahead reading stamp : ℕ) → stamp < 4294967296 → Decides (in-window back ahead reading stamp) (Some-tick-near back ahead reading stamp)
 window-decides back ahead reading stamp small =
     elim (leb-tells (age reading stamp) back) [
-      inl young ↦ (λ _. aged back ahead reading stamp small (young .1), λ _. or-left _ _ (young .0))
-    | inr old ↦ elim (leb-tells (lead reading stamp) ahead) [
-        inl soon ↦ (λ _. led back ahead reading stamp (soon .1), λ _. or-right _ _ (soon .0))
-      | inr early ↦ (λ e. absurd (both-ways _ (or-from _ _ (old .0) (early .0)) e), λ t. absurd (near back ahead reading stamp small t (old .1) (early .1)))
+      | inl young ↦ (λ _. aged back ahead reading stamp small (young .1), λ _. or-left _ _ (young .0))
+      | inr old ↦ elim (leb-tells (lead reading stamp) ahead) [
+        | inl soon ↦ (λ _. led back ahead reading stamp (soon .1), λ _. or-right _ _ (soon .0))
+        | inr early ↦ (λ e. absurd (both-ways _ (or-from _ _ (old .0) (early .0)) e), λ t. absurd (near back ahead reading stamp small t (old .1) (early .1)))
       ]
     ]

@@ -127,4 +127,4 @@ pub record Sealed-undone (h : SecurityHeader) (f : IvFields) (payload : List ℕ
 abbrev pub Reading-undoes-laying-out : Type 0
 Reading-undoes-laying-out =
     ((h : SecurityHeader) (payload : List ℕ) → Header-fits h → Open-undone h payload)
-  × ((h : SecurityHeader) (f : IvFields) (payload : List ℕ) (tag : ℕ) → Header-fits h → Fields-fit f → tag < 2 ^ 32 → Sealed-undone h f payload tag)
+    × ((h : SecurityHeader) (f : IvFields) (payload : List ℕ) (tag : ℕ) → Header-fits h → Fields-fit f → tag < 2 ^ 32 → Sealed-undone h f payload tag)

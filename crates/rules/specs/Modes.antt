@@ -37,12 +37,12 @@ row i r e = record { invoke = i; result = r; error = e }
 abbrev pub levels : List LevelModes
 levels =
     row Integrity NoProtection NoProtection
-  ∷ row Integrity Integrity NoProtection
-  ∷ row Integrity Confidentiality NoProtection
-  ∷ row Confidentiality Integrity NoProtection
-  ∷ row Confidentiality Confidentiality NoProtection
-  ∷ row Confidentiality NoProtection NoProtection
-  ∷ []
+    ∷ row Integrity Integrity NoProtection
+    ∷ row Integrity Confidentiality NoProtection
+    ∷ row Confidentiality Integrity NoProtection
+    ∷ row Confidentiality Confidentiality NoProtection
+    ∷ row Confidentiality NoProtection NoProtection
+    ∷ []
 
 -- the row of a level
 abbrev pub row-of : ℕ → Option LevelModes

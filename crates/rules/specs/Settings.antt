@@ -16,9 +16,9 @@ use Rattle.rules.specs.Profiles.{levels-known, lines-apart}
 abbrev pub setting-checks : ℕ → ℕ → ℕ → ℕ → List ComponentId → List ProfileLine → List (Bool × Refusal)
 setting-checks own ne-id back ahead listed profile =
     (leb 16777216 own, WrongSetting OwnNetwork)
-  ∷ (leb 281474976710656 ne-id, WrongSetting NeId)
-  ∷ (ltb 6000 back, WrongSetting Back)
-  ∷ (ltb 600 ahead, WrongSetting Ahead)
-  ∷ (ltb 64 (length listed) || not (kinds-known listed), WrongSetting ProtectedList)
-  ∷ ((ltb 64 (length profile) || not (levels-known profile)) || not (lines-apart profile), WrongSetting ProfileLines)
-  ∷ []
+    ∷ (leb 281474976710656 ne-id, WrongSetting NeId)
+    ∷ (ltb 6000 back, WrongSetting Back)
+    ∷ (ltb 600 ahead, WrongSetting Ahead)
+    ∷ (ltb 64 (length listed) || not (kinds-known listed), WrongSetting ProtectedList)
+    ∷ ((ltb 64 (length profile) || not (levels-known profile)) || not (lines-apart profile), WrongSetting ProfileLines)
+    ∷ []

@@ -6,7 +6,6 @@ pub mod profile;
 pub mod protection;
 pub mod refusal;
 pub mod settings;
-pub mod window;
-
 #[cfg(test)]
 mod tests;
+pub mod window;

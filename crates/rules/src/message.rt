@@ -43,7 +43,28 @@ impl SecurityHeader {
         let [t0, t1, t2, t3] = octets::of_u32(fields.tvp);
         let [n0, n1, n2, n3, n4, n5] = octets::of_u48(fields.ne_id);
         let [p0, p1, p2, p3] = octets::of_u32(fields.prop);
-        [s0, s1, s2, s3, kind, code, t0, t1, t2, t3, n0, n1, n2, n3, n4, n5, p0, p1, p2, p3]
+        [
+            s0,
+            s1,
+            s2,
+            s3,
+            kind,
+            code,
+            t0,
+            t1,
+            t2,
+            t3,
+            n0,
+            n1,
+            n2,
+            n3,
+            n4,
+            n5,
+            p0,
+            p1,
+            p2,
+            p3,
+        ]
     }
 
     // The header of a message of either shape.
@@ -54,8 +75,14 @@ impl SecurityHeader {
         if length < 6 {
             return Err(Refusal::MessageTooShort { length });
         }
-        let component = ComponentId { kind: message[4], code: message[5] };
-        Ok(SecurityHeader { spi: u32_at(message, 0), component })
+        let component = ComponentId {
+            kind: message[4],
+            code: message[5],
+        };
+        Ok(SecurityHeader {
+            spi: u32_at(message, 0),
+            component,
+        })
     }
 }
 
@@ -76,7 +103,12 @@ fn u32_at(octets: &[u8], place: usize) -> u32
     requires { ⌜ place + 4 ≤ length (now octets) ⌝ }
     ensures { λ r. ⌜ r ≡ number (part place 4 (now (octets .entry))) ⌝ }
 {
-    octets::to_u32([octets[place], octets[place + 1], octets[place + 2], octets[place + 3]])
+    octets::to_u32([
+        octets[place],
+        octets[place + 1],
+        octets[place + 2],
+        octets[place + 3],
+    ])
 }
 
 // The number in the six octets from a place on.
@@ -84,7 +116,14 @@ fn u48_at(octets: &[u8], place: usize) -> u64
     requires { ⌜ place + 6 ≤ length (now octets) ⌝ }
     ensures { λ r. ⌜ r ≡ number (part place 6 (now (octets .entry))) ⌝ }
 {
-    octets::to_u48([octets[place], octets[place + 1], octets[place + 2], octets[place + 3], octets[place + 4], octets[place + 5]])
+    octets::to_u48([
+        octets[place],
+        octets[place + 1],
+        octets[place + 2],
+        octets[place + 3],
+        octets[place + 4],
+        octets[place + 5],
+    ])
 }
 
 // Octets of a message, with the place of the first of them.
@@ -98,9 +137,18 @@ pub struct Part<'a> {
 #[derive(Drop)]
 pub enum Message<'a> {
     // mode 0
-    Open { header: Part<'a>, payload: Part<'a> },
+    Open {
+        header: Part<'a>,
+        payload: Part<'a>,
+    },
     // modes 1 and 2, with what the header and the tag say as numbers
-    Sealed { header: Part<'a>, fields: IvFields, payload: Part<'a>, tag: Part<'a>, claimed: u32 },
+    Sealed {
+        header: Part<'a>,
+        fields: IvFields,
+        payload: Part<'a>,
+        tag: Part<'a>,
+        claimed: u32,
+    },
 }
 
 // The header's fields behind SPI and identifier.
@@ -108,7 +156,11 @@ fn fields_of(message: &[u8]) -> IvFields
     requires { ⌜ 20 ≤ length (now message) ⌝ }
     ensures { λ r. ⌜ r ≡ fields-in (now (message .entry)) ⌝ }
 {
-    IvFields { tvp: u32_at(message, 6), ne_id: u48_at(message, 10), prop: u32_at(message, 16) }
+    IvFields {
+        tvp: u32_at(message, 6),
+        ne_id: u48_at(message, 10),
+        prop: u32_at(message, 16),
+    }
 }
 
 // Reads a message of a mode, or refuses one that is too short for its shape.
@@ -122,10 +174,19 @@ pub fn read(message: &[u8], mode: ProtectionMode) -> Result<Message<'_>, Refusal
         }
         let end = length - 4;
         return Ok(Message::Sealed {
-            header: Part { place: 0, octets: &message[0..20] },
+            header: Part {
+                place: 0,
+                octets: &message[0..20],
+            },
             fields: fields_of(message),
-            payload: Part { place: 20, octets: &message[20..end] },
-            tag: Part { place: end, octets: &message[end..length] },
+            payload: Part {
+                place: 20,
+                octets: &message[20..end],
+            },
+            tag: Part {
+                place: end,
+                octets: &message[end..length],
+            },
             claimed: u32_at(message, end),
         });
     }
@@ -133,8 +194,14 @@ pub fn read(message: &[u8], mode: ProtectionMode) -> Result<Message<'_>, Refusal
         return Err(Refusal::MessageTooShort { length });
     }
     Ok(Message::Open {
-        header: Part { place: 0, octets: &message[0..6] },
-        payload: Part { place: 6, octets: &message[6..length] },
+        header: Part {
+            place: 0,
+            octets: &message[0..6],
+        },
+        payload: Part {
+            place: 6,
+            octets: &message[6..length],
+        },
     })
 }
 

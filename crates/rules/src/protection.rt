@@ -51,12 +51,36 @@ impl LevelModes {
 
 // The protection levels 1 to 6 of TS 33.200.
 const LEVELS: [LevelModes; 6] = [
-    LevelModes { invoke: ProtectionMode::Integrity, result: ProtectionMode::NoProtection, error: ProtectionMode::NoProtection },
-    LevelModes { invoke: ProtectionMode::Integrity, result: ProtectionMode::Integrity, error: ProtectionMode::NoProtection },
-    LevelModes { invoke: ProtectionMode::Integrity, result: ProtectionMode::Confidentiality, error: ProtectionMode::NoProtection },
-    LevelModes { invoke: ProtectionMode::Confidentiality, result: ProtectionMode::Integrity, error: ProtectionMode::NoProtection },
-    LevelModes { invoke: ProtectionMode::Confidentiality, result: ProtectionMode::Confidentiality, error: ProtectionMode::NoProtection },
-    LevelModes { invoke: ProtectionMode::Confidentiality, result: ProtectionMode::NoProtection, error: ProtectionMode::NoProtection },
+    LevelModes {
+        invoke: ProtectionMode::Integrity,
+        result: ProtectionMode::NoProtection,
+        error: ProtectionMode::NoProtection,
+    },
+    LevelModes {
+        invoke: ProtectionMode::Integrity,
+        result: ProtectionMode::Integrity,
+        error: ProtectionMode::NoProtection,
+    },
+    LevelModes {
+        invoke: ProtectionMode::Integrity,
+        result: ProtectionMode::Confidentiality,
+        error: ProtectionMode::NoProtection,
+    },
+    LevelModes {
+        invoke: ProtectionMode::Confidentiality,
+        result: ProtectionMode::Integrity,
+        error: ProtectionMode::NoProtection,
+    },
+    LevelModes {
+        invoke: ProtectionMode::Confidentiality,
+        result: ProtectionMode::Confidentiality,
+        error: ProtectionMode::NoProtection,
+    },
+    LevelModes {
+        invoke: ProtectionMode::Confidentiality,
+        result: ProtectionMode::NoProtection,
+        error: ProtectionMode::NoProtection,
+    },
 ];
 
 // The row of a level; none where there is no such level.

@@ -144,47 +144,69 @@ impl Refusal {
             Refusal::TickFull => 200,
             Refusal::OutputTooShort { needed } => needed,
             Refusal::WrongSetting { setting } => usize::from(setting.position()),
-            Refusal::WrongReading | Refusal::NoPolicy | Refusal::SecuredFromPlainNetwork | Refusal::NoLiveAssociation | Refusal::KeyNotHeld => 0,
+            Refusal::WrongReading
+            | Refusal::NoPolicy
+            | Refusal::SecuredFromPlainNetwork
+            | Refusal::NoLiveAssociation
+            | Refusal::KeyNotHeld => 0,
         }
     }
 }
 
 pub impl fmt::Display for Setting as SettingDisplay {
     fn fmt<W: fmt::Write>(&self, f: &mut fmt::Formatter<W>) -> fmt::Result {
-        f.write_str(match self {
-            Setting::OwnNetwork => "the own network is a PLMN-Id of 24 bits: 0 to 16777215",
-            Setting::NeId => "the NE-Id has six octets: 0 to 281474976710655",
-            Setting::Back => "back is 0 to 6000 ticks",
-            Setting::Ahead => "ahead is 0 to 600 ticks",
-            Setting::Fallback => "fallback is allowed or not",
-            Setting::ProtectedList => "the protected list has at most 64 identifiers, each of kind 1, 2 or 3",
-            Setting::ProfileLines => "there are at most 64 profile lines, each of level 1 to 6, and no two for one PPI and code",
-        })
+        f.write_str(
+            match self {
+                Setting::OwnNetwork => "the own network is a PLMN-Id of 24 bits: 0 to 16777215",
+                Setting::NeId => "the NE-Id has six octets: 0 to 281474976710655",
+                Setting::Back => "back is 0 to 6000 ticks",
+                Setting::Ahead => "ahead is 0 to 600 ticks",
+                Setting::Fallback => "fallback is allowed or not",
+                Setting::ProtectedList =>
+                    "the protected list has at most 64 identifiers, each of kind 1, 2 or 3",
+                Setting::ProfileLines =>
+                    "there are at most 64 profile lines, each of level 1 to 6, and no two for one PPI and code",
+            },
+        )
     }
 }
 
 pub impl fmt::Display for PolicyField as PolicyFieldDisplay {
     fn fmt<W: fmt::Write>(&self, f: &mut fmt::Formatter<W>) -> fmt::Result {
-        f.write_str(match self {
-            PolicyField::Network => "the network is a PLMN-Id of 24 bits: 0 to 16777215",
-            PolicyField::Stance => "the stance is 0 (remove), 1 (plain) or 2 (MAPsec)",
-        })
+        f.write_str(
+            match self {
+                PolicyField::Network => "the network is a PLMN-Id of 24 bits: 0 to 16777215",
+                PolicyField::Stance => "the stance is 0 (remove), 1 (plain) or 2 (MAPsec)",
+            },
+        )
     }
 }
 
 pub impl fmt::Display for AssociationField as AssociationFieldDisplay {
     fn fmt<W: fmt::Write>(&self, f: &mut fmt::Formatter<W>) -> fmt::Result {
         match self {
-            AssociationField::Sender => f.write_str("the sending network is a PLMN-Id of 24 bits, and it or the destination is the own network"),
-            AssociationField::Destination => f.write_str("the destination network is a PLMN-Id of 24 bits: 0 to 16777215"),
+            AssociationField::Sender => f.write_str(
+                "the sending network is a PLMN-Id of 24 bits, and it or the destination is the own network",
+            ),
+            AssociationField::Destination => f.write_str(
+                "the destination network is a PLMN-Id of 24 bits: 0 to 16777215",
+            ),
             AssociationField::Spi => f.write_str("the SPI"),
-            AssociationField::Mea => f.write_str("the MEA number is one that the station has a cipher for"),
+            AssociationField::Mea => f.write_str(
+                "the MEA number is one that the station has a cipher for",
+            ),
             AssociationField::CipherKey => f.write_str("the cipher key"),
-            AssociationField::Mia => f.write_str("the MIA number is one that the station has a tag for"),
+            AssociationField::Mia => f.write_str(
+                "the MIA number is one that the station has a tag for",
+            ),
             AssociationField::IntegrityKey => f.write_str("the integrity key"),
             AssociationField::Ppi => f.write_str("the PPI"),
-            AssociationField::SoftExpiry => f.write_str("the soft expiry is not above the hard expiry"),
-            AssociationField::HardExpiry => f.write_str("the hard expiry is above the reading, and at most 2147483648 ticks above it"),
+            AssociationField::SoftExpiry => f.write_str(
+                "the soft expiry is not above the hard expiry",
+            ),
+            AssociationField::HardExpiry => f.write_str(
+                "the hard expiry is above the reading, and at most 2147483648 ticks above it",
+            ),
         }
     }
 }
@@ -193,25 +215,58 @@ pub impl fmt::Display for AssociationField as AssociationFieldDisplay {
 pub impl fmt::Display for Refusal as RefusalDisplay {
     fn fmt<W: fmt::Write>(&self, f: &mut fmt::Formatter<W>) -> fmt::Result {
         match *self {
-            Refusal::MessageTooShort { length } => write!(f, "the message is too short for its header and tag: {length} octets"),
-            Refusal::CleartextTooLong { .. } => f.write_str("the cleartext has more than 1024 octets"),
-            Refusal::UnknownKind { .. } => f.write_str("the component is of no known kind: 1 is invoke, 2 result, 3 error"),
-            Refusal::WrongReading => f.write_str("the reading is before the latest one, or above 281474976710655"),
+            Refusal::MessageTooShort { length } => write!(
+                f,
+                "the message is too short for its header and tag: {length} octets"
+            ),
+            Refusal::CleartextTooLong { .. } => f.write_str(
+                "the cleartext has more than 1024 octets",
+            ),
+            Refusal::UnknownKind { .. } => f.write_str(
+                "the component is of no known kind: 1 is invoke, 2 result, 3 error",
+            ),
+            Refusal::WrongReading => f.write_str(
+                "the reading is before the latest one, or above 281474976710655",
+            ),
             Refusal::NoPolicy => f.write_str("there is no policy for the network"),
-            Refusal::SecuredFromPlainNetwork => f.write_str("a secured message came from a network whose policy is plain"),
-            Refusal::ListedUnprotected { .. } => f.write_str("a component of the protected list came unprotected, and fallback is not allowed"),
-            Refusal::NoLiveAssociation => f.write_str("there is no live security association for it"),
-            Refusal::KeyHeld => f.write_str("a live security association holds this destination and SPI"),
+            Refusal::SecuredFromPlainNetwork => f.write_str(
+                "a secured message came from a network whose policy is plain",
+            ),
+            Refusal::ListedUnprotected { .. } => f.write_str(
+                "a component of the protected list came unprotected, and fallback is not allowed",
+            ),
+            Refusal::NoLiveAssociation => f.write_str(
+                "there is no live security association for it",
+            ),
+            Refusal::KeyHeld => f.write_str(
+                "a live security association holds this destination and SPI",
+            ),
             Refusal::WrongPolicy { field } => write!(f, "wrong field of the policy: {field}"),
-            Refusal::WrongAssociation { field } => write!(f, "wrong field of the security association: {field}"),
-            Refusal::KeyNotHeld => f.write_str("no security association has this destination and SPI"),
-            Refusal::RegisterFull { capacity } => write!(f, "the register is full: {capacity} places"),
-            Refusal::OutsideWindow => f.write_str("the stamp is outside the window: too old or too far ahead"),
+            Refusal::WrongAssociation { field } => write!(
+                f,
+                "wrong field of the security association: {field}"
+            ),
+            Refusal::KeyNotHeld => f.write_str(
+                "no security association has this destination and SPI",
+            ),
+            Refusal::RegisterFull { capacity } => write!(
+                f,
+                "the register is full: {capacity} places"
+            ),
+            Refusal::OutsideWindow => f.write_str(
+                "the stamp is outside the window: too old or too far ahead",
+            ),
             Refusal::TagDiffers { .. } => f.write_str("the tag is not that of the message"),
             Refusal::HeardBefore => f.write_str("the message was heard before"),
-            Refusal::HeardFull { capacity } => write!(f, "the register of heard messages is full: {capacity} places"),
+            Refusal::HeardFull { capacity } => write!(
+                f,
+                "the register of heard messages is full: {capacity} places"
+            ),
             Refusal::TickFull => f.write_str("200 components were protected at this reading"),
-            Refusal::OutputTooShort { needed } => write!(f, "the output is too short: {needed} octets are needed"),
+            Refusal::OutputTooShort { needed } => write!(
+                f,
+                "the output is too short: {needed} octets are needed"
+            ),
             Refusal::WrongSetting { setting } => write!(f, "wrong setting: {setting}"),
         }
     }

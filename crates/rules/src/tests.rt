@@ -21,7 +21,11 @@ fn identifiers(heap: Global, count: u8, kind: u8) -> Result<Vec<ComponentId>, Fa
 fn lines(heap: Global, count: u8, level: u8) -> Result<Vec<ProfileLine>, Fail> {
     let mut profile = Vec::new(heap);
     for code in 0..count {
-        profile.push(ProfileLine { ppi: 7, code, level })?;
+        profile.push(ProfileLine {
+            ppi: 7,
+            code,
+            level,
+        })?;
     }
     Ok(profile)
 }
@@ -51,7 +55,18 @@ fn numbers_at_their_bounds(rt: LibcRuntime) -> Result<(), Fail> {
     ];
     for (own, ne_id, back, ahead, expected) in cases {
         let heap = rt.alloc();
-        check_eq(place(Settings::new(own, ne_id, back, ahead, true, Vec::new(heap), Vec::new(heap))), expected)?;
+        check_eq(
+            place(Settings::new(
+                own,
+                ne_id,
+                back,
+                ahead,
+                true,
+                Vec::new(heap),
+                Vec::new(heap),
+            )),
+            expected,
+        )?;
     }
     Ok(())
 }
@@ -59,10 +74,32 @@ fn numbers_at_their_bounds(rt: LibcRuntime) -> Result<(), Fail> {
 // 64 and 65 identifiers and lines, and kinds and levels at their bounds and past them.
 #[test]
 fn lists_at_their_bounds(rt: LibcRuntime) -> Result<(), Fail> {
-    let cases = [(64, 1, 64, 1, 0), (65, 1, 65, 1, 6), (64, 3, 64, 6, 0), (1, 0, 65, 0, 6), (1, 4, 0, 1, 6), (1, 255, 0, 1, 6), (64, 2, 65, 1, 7), (0, 1, 1, 0, 7), (0, 1, 1, 7, 7), (0, 1, 1, 255, 7)];
+    let cases = [
+        (64, 1, 64, 1, 0),
+        (65, 1, 65, 1, 6),
+        (64, 3, 64, 6, 0),
+        (1, 0, 65, 0, 6),
+        (1, 4, 0, 1, 6),
+        (1, 255, 0, 1, 6),
+        (64, 2, 65, 1, 7),
+        (0, 1, 1, 0, 7),
+        (0, 1, 1, 7, 7),
+        (0, 1, 1, 255, 7),
+    ];
     for (listed, kind, profile, level, expected) in cases {
         let heap = rt.alloc();
-        check_eq(place(Settings::new(0, 0, 0, 0, false, identifiers(heap, listed, kind)?, lines(heap, profile, level)?)), expected)?;
+        check_eq(
+            place(Settings::new(
+                0,
+                0,
+                0,
+                0,
+                false,
+                identifiers(heap, listed, kind)?,
+                lines(heap, profile, level)?,
+            )),
+            expected,
+        )?;
     }
     Ok(())
 }
@@ -73,11 +110,25 @@ fn lines_repeated(rt: LibcRuntime) -> Result<(), Fail> {
     let heap = rt.alloc();
     for code in [0, 15, 31] {
         let mut profile = lines(heap, 32, 2)?;
-        profile.push(ProfileLine { ppi: 8, code, level: 2 })?;
-        check_eq(place(Settings::new(0, 0, 0, 0, false, Vec::new(heap), profile)), 0)?;
+        profile.push(ProfileLine {
+            ppi: 8,
+            code,
+            level: 2,
+        })?;
+        check_eq(
+            place(Settings::new(0, 0, 0, 0, false, Vec::new(heap), profile)),
+            0,
+        )?;
         let mut profile = lines(heap, 32, 2)?;
-        profile.push(ProfileLine { ppi: 7, code, level: 2 })?;
-        check_eq(place(Settings::new(0, 0, 0, 0, false, Vec::new(heap), profile)), 7)?;
+        profile.push(ProfileLine {
+            ppi: 7,
+            code,
+            level: 2,
+        })?;
+        check_eq(
+            place(Settings::new(0, 0, 0, 0, false, Vec::new(heap), profile)),
+            7,
+        )?;
     }
     Ok(())
 }
@@ -85,9 +136,17 @@ fn lines_repeated(rt: LibcRuntime) -> Result<(), Fail> {
 #[test]
 fn refusals_in_words(rt: LibcRuntime) -> Result<(), Fail> {
     let heap = rt.alloc();
-    let wrong = Refusal::WrongSetting { setting: Setting::Back };
+    let wrong = Refusal::WrongSetting {
+        setting: Setting::Back,
+    };
     check_eq((wrong.number(), wrong.layer(), wrong.place()), (61, 6, 3))?;
-    check_eq(format!(heap, "{wrong}")?.as_str(), "wrong setting: back is 0 to 6000 ticks")?;
+    check_eq(
+        format!(heap, "{wrong}")?.as_str(),
+        "wrong setting: back is 0 to 6000 ticks",
+    )?;
     let short = Refusal::OutputTooShort { needed: 30 };
-    check_eq(format!(heap, "{short}")?.as_str(), "the output is too short: 30 octets are needed")
+    check_eq(
+        format!(heap, "{short}")?.as_str(),
+        "the output is too short: 30 octets are needed",
+    )
 }

@@ -38,6 +38,7 @@ impl Window {
         ensures test { λ r. ⌜ r ≡ in-window (self .back) (self .ahead) reading stamp ⌝ }
         ensures ticks { λ r. ⌜ Decides r (Some-tick-near (self .back) (self .ahead) reading stamp) ⌝ }
     {
-        (u64::from(age(reading, stamp)) <= self.back) | (u64::from(lead(reading, stamp)) <= self.ahead)
+        (u64::from(age(reading, stamp)) <= self.back)
+            | (u64::from(lead(reading, stamp)) <= self.ahead)
     }
 }

@@ -34,7 +34,7 @@ none-of None e = refl
 none-of (Some x) e = absurd (let z : _≡_ {A = ℕ} 0 1 = cc in omega arith)
 
 -- the outcome of a call that only changes the registers
-abbrev done : Unit {0}
+abbrev pub done : Unit {0}
 done = tt {0}
 
 module _ (ciphers : Ciphers) (tags : Tags) (reading : ℕ) (a : SecurityAssociation) (s : Station) (before : Contents) where

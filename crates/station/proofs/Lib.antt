@@ -1,4 +1,5 @@
 pub mod Installs
 pub mod Preferences
+pub mod Protects
 pub mod Turns
 pub mod Writes

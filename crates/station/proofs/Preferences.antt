@@ -43,25 +43,28 @@ best-once before P (Some a) (Some b) h k =
 -- A SCAN, for any order in which of two with different marks exactly one is before the other, and that is transitive
 
 module _ {X : Type 0} (fit : X → Bool) (before : X → X → Bool) (mark : X → ℕ)
-  (one-way : (a b : X) → (mark a ≡ mark b → ⊥) → before a b ≡ not (before b a))
-  (chain : (a b c : X) → before a b ≡ true → before b c ≡ true → before a c ≡ true) where
-
+    (one-way : (a b : X) → (mark a ≡ mark b → ⊥) → before a b ≡ not (before b a))
+    (chain : (a b c : X) → before a b ≡ true → before b c ≡ true → before a c ≡ true) where
   -- the better of the best of P and one more
   better-best : (P : X → Type 0) (best : Option X) (a : X) → Best before P best → ((x : X) → P x → mark x ≡ mark a → ⊥) → Best before (λ x. P x ⊎ (x ≡ a)) (better before best a)
   better-best P None a h other = (inr refl, λ x. ⊎-elim (λ p. absurd (h x p)) inl)
   better-best P (Some b) a h other =
       ⊎-elim
-      (λ t. subst (Best before (λ x. P x ⊎ (x ≡ a))) (sym (ap (λ v. cond v (Some a) (Some b)) t))
-        (inr refl, λ x. ⊎-elim
-          (λ p. inr (⊎-elim
+      (λ t. subst (Best before (λ x. P x ⊎ (x ≡ a))) (sym (ap (λ v. cond v (Some a) (Some b)) t)) (
+        inr refl,
+        λ x. ⊎-elim
+            (λ p. inr (⊎-elim
             (λ e. both x p (subst (λ y. before a y ≡ true) (sym e) t))
             (λ bx. both x p (chain a b x t (bx .0)))
             (h .1 x p)))
-          inl))
-      (λ f. subst (Best before (λ x. P x ⊎ (x ≡ a))) (sym (ap (λ v. cond v (Some a) (Some b)) f))
-        (inl (h .0), λ x. ⊎-elim
-          (h .1 x)
-          (λ e. inr (subst (λ y. (before b y ≡ true) × (before y b ≡ false)) (sym e) (one-way b a (other b (h .0)) ∙ ap not f, f)))))
+            inl,
+      ))
+      (λ f. subst (Best before (λ x. P x ⊎ (x ≡ a))) (sym (ap (λ v. cond v (Some a) (Some b)) f)) (
+        inl (h .0),
+        λ x. ⊎-elim
+            (h .1 x)
+            (λ e. inr (subst (λ y. (before b y ≡ true) × (before y b ≡ false)) (sym e) (one-way b a (other b (h .0)) ∙ ap not f, f))),
+      ))
       (cases-bool (before a b))
     where
       both : (x : X) → P x → before a x ≡ true → (before a x ≡ true) × (before x a ≡ false)
@@ -87,16 +90,16 @@ module _ {X : Type 0} (fit : X → Bool) (before : X → X → Bool) (mark : X �
     turn i (Some a) l is h =
         ⊎-elim
         (λ t. subst (Best before (Seen (i + 1))) (sym (ap (λ v. cond v (better before (chosen fit before (take i places)) a) (chosen fit before (take i places))) t))
-          (best-like before (λ x. Seen i x ⊎ (x ≡ a)) (Seen (i + 1))
-            (λ x. ⊎-elim (λ s. (s .0, omega (arith, s .1), s .2, s .3)) (λ e. (i, omega arith, is ∙ ap Some (sym e), ap fit e ∙ t)))
-            (λ x s. ⊎-elim (λ b. inl (s .0, b, s .2, s .3)) (λ b. inr (new x s b)) (cases-lt (s .0) i))
-            (better before (chosen fit before (take i places)) a)
-            (better-best (Seen i) (chosen fit before (take i places)) a h (λ x s e. unlike (s .0) i x a (s .1) (s .2) is (s .3) t e))))
+        (best-like before (λ x. Seen i x ⊎ (x ≡ a)) (Seen (i + 1))
+        (λ x. ⊎-elim (λ s. (s .0, omega (arith, s .1), s .2, s .3)) (λ e. (i, omega arith, is ∙ ap Some (sym e), ap fit e ∙ t)))
+        (λ x s. ⊎-elim (λ b. inl (s .0, b, s .2, s .3)) (λ b. inr (new x s b)) (cases-lt (s .0) i))
+        (better before (chosen fit before (take i places)) a)
+        (better-best (Seen i) (chosen fit before (take i places)) a h (λ x s e. unlike (s .0) i x a (s .1) (s .2) is (s .3) t e))))
         (λ f. subst (Best before (Seen (i + 1))) (sym (ap (λ v. cond v (better before (chosen fit before (take i places)) a) (chosen fit before (take i places))) f))
-          (best-like before (Seen i) (Seen (i + 1))
-            (λ x s. (s .0, omega (arith, s .1), s .2, s .3))
-            (λ x s. ⊎-elim (λ b. (s .0, b, s .2, s .3)) (λ b. absurd (true≢false (sym (s .3) ∙ ap fit (new x s b) ∙ f))) (cases-lt (s .0) i))
-            (chosen fit before (take i places)) h))
+        (best-like before (Seen i) (Seen (i + 1))
+        (λ x s. (s .0, omega (arith, s .1), s .2, s .3))
+        (λ x s. ⊎-elim (λ b. (s .0, b, s .2, s .3)) (λ b. absurd (true≢false (sym (s .3) ∙ ap fit (new x s b) ∙ f))) (cases-lt (s .0) i))
+        (chosen fit before (take i places)) h))
         (cases-bool (fit a))
       where
         new : (x : X) → (s : Seen (i + 1) x) → i ≤ s .0 → x ≡ a
@@ -106,7 +109,7 @@ module _ {X : Type 0} (fit : X → Bool) (before : X → X → Bool) (mark : X �
     upto zero l = λ x s. omega (arith, s .1)
     upto (suc i) l =
         let more : chosen fit before (take (i + 1) places) ≡ weighed fit before (chosen fit before (take i places)) (getD places i None) =
-            ap (chosen fit before) (take-more places i None (omega arith)) ∙ best-push None (take i places) (getD places i None) in
+        ap (chosen fit before) (take-more places i None (omega arith)) ∙ best-push None (take i places) (getD places i None) in
         let here = subst (Best before (Seen (i + 1))) (sym more) (turn i (getD places i None) (omega arith) refl (upto i (omega arith))) in
         let same : i + 1 ≡ suc i = omega arith in
         subst (λ n. Best before (Seen n) (chosen fit before (take n places))) same here
@@ -162,9 +165,10 @@ module _ (reading own network : ℕ) (places : Associations) (apart : Apart asso
 
   in-words : (r : Option SecurityAssociation) → Best (preferred reading) (λ x. Holds places x × (fit x ≡ true)) r → Chosen reading own network places r
   in-words None b = λ x c. b x (c .held, fit-from reading own network places x c)
-  in-words (Some a) b =
-      (says reading own network places a (b .0 .0) (b .0 .1),
-       λ x c. ⊎-elim inl (λ p. inr (prefers reading a x (p .0))) (b .1 x (c .held, fit-from reading own network places x c)))
+  in-words (Some a) b = (
+    says reading own network places a (b .0 .0) (b .0 .1),
+    λ x c. ⊎-elim inl (λ p. inr (prefers reading a x (p .0))) (b .1 x (c .held, fit-from reading own network places x c)),
+  )
 
   pub chosen-law : Chosen reading own network places (chosen-for reading own network places)
   chosen-law = in-words (chosen-for reading own network places) best

@@ -43,8 +43,7 @@ module _ (a k : ℕ) (first second rest xs : List ℕ) (is : xs ≡ (first ++ se
 -- A sealed message: the header, the cleartext, the payload over it, and the tag of both.
 -- F turns cleartext into payload and keeps its length; G is the tag.
 module _ (F : List ℕ → List ℕ) (G : List ℕ → ℕ) (keeps : (xs : List ℕ) → length (F xs) ≡ length xs) (header clear old : List ℕ) (n k : ℕ)
-  (twenty : length header ≡ 20) (size : length clear ≡ n) (room : length old ≡ 24 + n) (k-is : k ≡ n) where
-
+    (twenty : length header ≡ 20) (size : length clear ≡ n) (room : length old ≡ 24 + n) (k-is : k ≡ n) where
   abbrev x1 : List ℕ
   x1 = header ++ drop 20 old
 
@@ -77,12 +76,12 @@ module _ (F : List ℕ → List ℕ) (G : List ℕ → ℕ) (keeps : (xs : List 
 
 -- the same, of the lists that the code copied from
 pub sealed-copied : (F : List ℕ → List ℕ) (G : List ℕ → ℕ) → ((xs : List ℕ) → length (F xs) ≡ length xs)
-  → (put header copied clear ran w old : List ℕ) (sum n k place width : ℕ)
-  → put ≡ header → length header ≡ 20 → copied ≡ clear → length clear ≡ n → length old ≡ 24 + n → k ≡ n → place ≡ 20 + n → width ≡ 4
-  → ran ≡ F (take k (drop 20 (putMid 20 k (put ++ drop 20 old) copied)))
-  → sum ≡ G (take 20 (putMid 20 k (putMid 20 k (put ++ drop 20 old) copied) ran) ++ take k (drop 20 (putMid 20 k (putMid 20 k (put ++ drop 20 old) copied) ran)))
-  → w ≡ octets-of 4 sum
-  → putMid place width (putMid 20 k (putMid 20 k (put ++ drop 20 old) copied) ran) w ≡ header ++ (F clear ++ octets-of 4 (G (header ++ F clear)))
+    → (put header copied clear ran w old : List ℕ) (sum n k place width : ℕ)
+    → put ≡ header → length header ≡ 20 → copied ≡ clear → length clear ≡ n → length old ≡ 24 + n → k ≡ n → place ≡ 20 + n → width ≡ 4
+    → ran ≡ F (take k (drop 20 (putMid 20 k (put ++ drop 20 old) copied)))
+    → sum ≡ G (take 20 (putMid 20 k (putMid 20 k (put ++ drop 20 old) copied) ran) ++ take k (drop 20 (putMid 20 k (putMid 20 k (put ++ drop 20 old) copied) ran)))
+    → w ≡ octets-of 4 sum
+    → putMid place width (putMid 20 k (putMid 20 k (put ++ drop 20 old) copied) ran) w ≡ header ++ (F clear ++ octets-of 4 (G (header ++ F clear)))
 sealed-copied F G keeps put header copied clear ran w old sum n k place width h twenty c size room k-is p wd runs sums tag =
     ap (putMid place width (putMid 20 k (putMid 20 k (put ++ drop 20 old) copied) ran)) tag
     ∙ sealed-written F G keeps put copied old n k (ap length h ∙ twenty) (ap length c ∙ size) room k-is _ refl ran runs _ refl sum sums place width p wd

@@ -26,9 +26,9 @@ no-place-for network places = not (isSome (policy-under network places)) && leb 
 abbrev pub admit-checks : ℕ → ℕ → Policies → List (Bool × Refusal)
 admit-checks network stance places =
     (leb 16777216 network, WrongPolicy WrongNetwork)
-  ∷ (ltb 2 stance, WrongPolicy WrongStance)
-  ∷ (ltb 0 stance && no-place-for network places, RegisterFull (length places))
-  ∷ []
+    ∷ (ltb 2 stance, WrongPolicy WrongStance)
+    ∷ (ltb 0 stance && no-place-for network places, RegisterFull (length places))
+    ∷ []
 
 -- the policy of a stance: 0 is none, 1 plain, 2 MAPsec
 abbrev pub policy-of : ℕ → ℕ → Option Policy

@@ -75,7 +75,7 @@ abbrev pub Chosen : ℕ → ℕ → ℕ → Associations → Option SecurityAsso
 Chosen reading own network places None = (x : SecurityAssociation) → Candidate reading own network places x → ⊥
 Chosen reading own network places (Some a) =
     Candidate reading own network places a
-  × ((x : SecurityAssociation) → Candidate reading own network places x → (x ≡ a) ⊎ Preferred-to reading a x)
+    × ((x : SecurityAssociation) → Candidate reading own network places x → (x ≡ a) ⊎ Preferred-to reading a x)
 
 -- the same associations, wherever they lie
 abbrev pub Same-held : Associations → Associations → Type 0

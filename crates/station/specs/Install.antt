@@ -25,19 +25,19 @@ use Rattle.station.specs.States.{Contents, Associations, association-under, li
 abbrev pub field-checks : ℕ → Ciphers → Tags → ℕ → SecurityAssociation → List (Bool × Refusal)
 field-checks own ciphers tags reading a =
     (leb 16777216 (a .sender) || (not (eqb (a .sender) own) && not (eqb (a .destination) own)), WrongAssociation Sender)
-  ∷ (leb 16777216 (a .destination), WrongAssociation Destination)
-  ∷ (not (isSome (ciphers (a .mea))), WrongAssociation Mea)
-  ∷ (not (isSome (tags (a .mia))), WrongAssociation Mia)
-  ∷ (ltb (a .hard) (a .soft), WrongAssociation SoftExpiry)
-  ∷ (leb (a .hard) reading || ltb (reading + 2147483648) (a .hard), WrongAssociation HardExpiry)
-  ∷ []
+    ∷ (leb 16777216 (a .destination), WrongAssociation Destination)
+    ∷ (not (isSome (ciphers (a .mea))), WrongAssociation Mea)
+    ∷ (not (isSome (tags (a .mia))), WrongAssociation Mia)
+    ∷ (ltb (a .hard) (a .soft), WrongAssociation SoftExpiry)
+    ∷ (leb (a .hard) reading || ltb (reading + 2147483648) (a .hard), WrongAssociation HardExpiry)
+    ∷ []
 
 -- the key is not held by an association whose last tick is not past, and these do not fill the register
 abbrev pub place-checks : ℕ → SecurityAssociation → Associations → List (Bool × Refusal)
 place-checks reading a places =
     (isSome (not-past association-last reading (association-under (association-key a) places)), KeyHeld)
-  ∷ (leb (length places) (live-count reading places), RegisterFull (length places))
-  ∷ []
+    ∷ (leb (length places) (live-count reading places), RegisterFull (length places))
+    ∷ []
 
 abbrev pub install-checks : Station → Ciphers → Tags → ℕ → SecurityAssociation → Associations → List (Bool × Refusal)
 install-checks s ciphers tags reading a places =

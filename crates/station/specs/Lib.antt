@@ -1,7 +1,9 @@
 pub mod Admit
 pub mod Choice
 pub mod Clock
+pub mod Forms
 pub mod Install
+pub mod Protect
 pub mod Records
 pub mod Revoke
 pub mod Seal

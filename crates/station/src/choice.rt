@@ -26,7 +26,13 @@ fn is_preferred(a: &SecurityAssociation, b: &SecurityAssociation, reading: u64) 
 }
 
 // The best so far, once one more place was looked at.
-fn weigh(best: Option<SecurityAssociation>, place: Option<SecurityAssociation>, reading: u64, own: u32, network: u32) -> Option<SecurityAssociation>
+fn weigh(
+    best: Option<SecurityAssociation>,
+    place: Option<SecurityAssociation>,
+    reading: u64,
+    own: u32,
+    network: u32,
+) -> Option<SecurityAssociation>
     ensures { λ r. ⌜ r ≡ weighed (candidate reading own network) (preferred reading) best place ⌝ }
 {
     let Some(a) = place else {
@@ -48,7 +54,12 @@ fn weigh(best: Option<SecurityAssociation>, place: Option<SecurityAssociation>, 
 }
 
 // The best of all places.
-fn best_of(places: &[Option<SecurityAssociation>], reading: u64, own: u32, network: u32) -> Option<SecurityAssociation>
+fn best_of(
+    places: &[Option<SecurityAssociation>],
+    reading: u64,
+    own: u32,
+    network: u32,
+) -> Option<SecurityAssociation>
     ensures { λ r. ⌜ r ≡ chosen-for reading own network (now (places .entry)) ⌝ }
 {
     let mut best = None;
@@ -59,7 +70,12 @@ fn best_of(places: &[Option<SecurityAssociation>], reading: u64, own: u32, netwo
 }
 
 // The association for sending to a network at a reading, or none where no candidate is held.
-pub(crate) fn choose(registers: &Registers<'_>, reading: u64, own: u32, network: u32) -> Option<SecurityAssociation>
+pub(crate) fn choose(
+    registers: &Registers<'_>,
+    reading: u64,
+    own: u32,
+    network: u32,
+) -> Option<SecurityAssociation>
     ensures value { λ r. ⌜ r ≡ chosen-for reading own network (now (now (registers .entry) .associations .places)) ⌝ }
     ensures law { λ r. ⌜ Chosen reading own network (now (now (registers .entry) .associations .places)) r ⌝ }
     ensures anywhere { λ r. ⌜ Anywhere reading own network (now (now (registers .entry) .associations .places)) r ⌝ }

@@ -85,7 +85,10 @@ pub impl Keyed for SecurityAssociation as SecurityAssociationKeyed {
     ghost most = { 256 };
 
     fn key_of(&self) -> AssociationKey {
-        AssociationKey { destination: self.destination, spi: self.spi }
+        AssociationKey {
+            destination: self.destination,
+            spi: self.spi,
+        }
     }
 
     fn has_key(&self, k: AssociationKey) -> bool {
@@ -137,7 +140,10 @@ pub impl Keyed for HeardMessage as HeardMessageKeyed {
     }
 
     fn has_key(&self, k: HeardKey) -> bool {
-        (k.network == self.key.network) & ((k.spi == self.key.spi) & ((k.tvp == self.key.tvp) & ((k.ne_id == self.key.ne_id) & (k.prop == self.key.prop))))
+        (k.network == self.key.network)
+            & ((k.spi == self.key.spi)
+                & ((k.tvp == self.key.tvp)
+                    & ((k.ne_id == self.key.ne_id) & (k.prop == self.key.prop))))
     }
 
     fn most_places() -> usize {

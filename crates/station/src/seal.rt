@@ -14,14 +14,25 @@ use rules::message::SecurityHeader;
 use rules::protection::ProtectionMode;
 
 // Turns cleartext into payload, and payload into cleartext: in mode 2 by the association's cipher, else not at all.
-pub(crate) fn turn<C: CipherBank>(ciphers: &mut C, association: &SecurityAssociation, fields: IvFields, mode: ProtectionMode, octets: &mut [u8])
+pub(crate) fn turn<C: CipherBank>(
+    ciphers: &mut C,
+    association: &SecurityAssociation,
+    fields: IvFields,
+    mode: ProtectionMode,
+    octets: &mut [u8],
+)
     ensures stays { λ _. ⌜ C·CipherBank .means (now (ciphers .exit)) ≡ C·CipherBank .means (now (ciphers .entry)) ⌝ }
     ensures octets { λ _. ⌜ now (octets .exit) ≡ turned (C·CipherBank .means (now (ciphers .entry))) (now (association .entry)) fields mode (now (octets .entry)) ⌝ }
 {
     match mode {
         ProtectionMode::NoProtection | ProtectionMode::Integrity => {}
         ProtectionMode::Confidentiality => {
-            ciphers.run(association.mea, &association.cipher_key, &Iv::from_octets(fields.iv()), octets);
+            ciphers.run(
+                association.mea,
+                &association.cipher_key,
+                &Iv::from_octets(fields.iv()),
+                octets,
+            );
         }
     }
 }
@@ -56,7 +67,18 @@ pub(crate) fn write_sealed<C: CipherBank, T: TagBank>(
     let tag_place = end - 4;
     message[0..20].copy_from_slice(&header.sealed_octets(fields));
     message[20..tag_place].copy_from_slice(cleartext);
-    turn(ciphers, association, fields, mode, &mut message[20..tag_place]);
-    let tag = tags.tag(association.mia, &association.integrity_key, &message[0..20], &message[20..tag_place]);
+    turn(
+        ciphers,
+        association,
+        fields,
+        mode,
+        &mut message[20..tag_place],
+    );
+    let tag = tags.tag(
+        association.mia,
+        &association.integrity_key,
+        &message[0..20],
+        &message[20..tag_place],
+    );
     message[tag_place..end].copy_from_slice(&octets::of_u32(tag));
 }

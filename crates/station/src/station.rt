@@ -26,25 +26,37 @@ use rules::settings::Settings;
 // and how many components it protected at which tick. Its registers are lent to each call.
 #[derive(Drop)]
 pub struct Station {
-    settings: Settings,
-    latest: u64,
-    tick: u64,
-    sent: u32,
+    pub(crate) settings: Settings,
+    pub(crate) latest: u64,
+    pub(crate) tick: u64,
+    pub(crate) sent: u32,
 }
 
 impl Station {
     pub fn new(settings: Settings) -> Station
         ensures { λ r. ⌜ r ≡ record { settings = settings; latest = 0; tick = 0; sent = 0 } ⌝ }
     {
-        Station { settings, latest: 0, tick: 0, sent: 0 }
+        Station {
+            settings,
+            latest: 0,
+            tick: 0,
+            sent: 0,
+        }
     }
 
     // Sets the policy for a network: stance 0 removes it, 1 is plain, 2 is MAPsec.
-    pub fn admit(&self, registers: &mut Registers<'_>, network: u32, stance: u8) -> Result<(), Refusal>
+    pub fn admit(
+        &self,
+        registers: &mut Registers<'_>,
+        network: u32,
+        stance: u8,
+    ) -> Result<(), Refusal>
         ensures { λ r. ⌜ Admitted network stance (contents-of (now (registers .entry))) (contents-of (now (registers .exit))) r ⌝ }
     {
         if network >= 16_777_216 {
-            return Err(Refusal::WrongPolicy { field: PolicyField::Network });
+            return Err(Refusal::WrongPolicy {
+                field: PolicyField::Network,
+            });
         }
         let stance = match stance {
             0 => {
@@ -53,16 +65,25 @@ impl Station {
             }
             1 => Stance::Plain,
             2 => Stance::Mapsec,
-            _ => return Err(Refusal::WrongPolicy { field: PolicyField::Stance }),
+            _ => return Err(Refusal::WrongPolicy {
+                field: PolicyField::Stance,
+            }),
         };
         if registers.set_policy(Policy { network, stance }) {
             return Ok(());
         }
-        Err(Refusal::RegisterFull { capacity: registers.policy_capacity() })
+        Err(Refusal::RegisterFull {
+            capacity: registers.policy_capacity(),
+        })
     }
 
     // Drops the association under a destination and an SPI, live or not.
-    pub fn revoke(&self, registers: &mut Registers<'_>, destination: u32, spi: u32) -> Result<(), Refusal>
+    pub fn revoke(
+        &self,
+        registers: &mut Registers<'_>,
+        destination: u32,
+        spi: u32,
+    ) -> Result<(), Refusal>
         ensures { λ r. ⌜ Revoked destination spi (contents-of (now (registers .entry))) (contents-of (now (registers .exit))) r ⌝ }
     {
         if registers.remove_association(AssociationKey { destination, spi }) {
@@ -72,7 +93,7 @@ impl Station {
     }
 
     // The reading is in range, and not before the latest.
-    fn clock(&self, reading: u64) -> Result<(), Refusal>
+    pub(crate) fn clock(&self, reading: u64) -> Result<(), Refusal>
         ensures { λ r. ⌜ r ≡ decided (clock-checks (now (self .entry) .latest) reading) tt ⌝ }
     {
         if (reading >= 281_474_976_710_656) | (reading < self.latest) {
@@ -82,33 +103,58 @@ impl Station {
     }
 
     // The fields of an association, in their order.
-    fn fields<C: CipherBank, T: TagBank>(&self, ciphers: &C, tags: &T, reading: u64, a: &SecurityAssociation) -> Result<(), Refusal>
+    fn fields<C: CipherBank, T: TagBank>(
+        &self,
+        ciphers: &C,
+        tags: &T,
+        reading: u64,
+        a: &SecurityAssociation,
+    ) -> Result<(), Refusal>
         ensures { λ r. ⌜ r ≡ decided (field-checks (now (self .entry) .settings .own) (C·CipherBank .means (now (ciphers .entry))) (T·TagBank .means (now (tags .entry))) reading (now (a .entry))) tt ⌝ }
     {
         let own = self.settings.own();
         if (a.sender >= 16_777_216) | ((a.sender != own) & (a.destination != own)) {
-            return Err(Refusal::WrongAssociation { field: AssociationField::Sender });
+            return Err(Refusal::WrongAssociation {
+                field: AssociationField::Sender,
+            });
         }
         if a.destination >= 16_777_216 {
-            return Err(Refusal::WrongAssociation { field: AssociationField::Destination });
+            return Err(Refusal::WrongAssociation {
+                field: AssociationField::Destination,
+            });
         }
         if !ciphers.knows(a.mea) {
-            return Err(Refusal::WrongAssociation { field: AssociationField::Mea });
+            return Err(Refusal::WrongAssociation {
+                field: AssociationField::Mea,
+            });
         }
         if !tags.knows(a.mia) {
-            return Err(Refusal::WrongAssociation { field: AssociationField::Mia });
+            return Err(Refusal::WrongAssociation {
+                field: AssociationField::Mia,
+            });
         }
         if a.soft > a.hard {
-            return Err(Refusal::WrongAssociation { field: AssociationField::SoftExpiry });
+            return Err(Refusal::WrongAssociation {
+                field: AssociationField::SoftExpiry,
+            });
         }
         if (a.hard <= reading) || (a.hard - reading > 2_147_483_648) {
-            return Err(Refusal::WrongAssociation { field: AssociationField::HardExpiry });
+            return Err(Refusal::WrongAssociation {
+                field: AssociationField::HardExpiry,
+            });
         }
         Ok(())
     }
 
     // Adds a security association.
-    pub fn install<C: CipherBank, T: TagBank>(&mut self, registers: &mut Registers<'_>, ciphers: &C, tags: &T, reading: u64, association: SecurityAssociation) -> Result<(), Refusal>
+    pub fn install<C: CipherBank, T: TagBank>(
+        &mut self,
+        registers: &mut Registers<'_>,
+        ciphers: &C,
+        tags: &T,
+        reading: u64,
+        association: SecurityAssociation,
+    ) -> Result<(), Refusal>
         ensures { λ r. ⌜ Installed (C·CipherBank .means (now (ciphers .entry))) (T·TagBank .means (now (tags .entry))) reading association (now (self .entry)) (now (self .exit)) (contents-of (now (registers .entry))) (contents-of (now (registers .exit))) r ⌝ }
     {
         self.clock(reading)?;
@@ -121,7 +167,11 @@ impl Station {
 }
 
 // The key is free, and a place is.
-fn place_for(registers: &Registers<'_>, reading: u64, association: &SecurityAssociation) -> Result<(), Refusal>
+fn place_for(
+    registers: &Registers<'_>,
+    reading: u64,
+    association: &SecurityAssociation,
+) -> Result<(), Refusal>
     ensures { λ r. ⌜ r ≡ decided (place-checks reading (now (association .entry)) (now (now (registers .entry) .associations .places))) tt ⌝ }
 {
     if let Some(held) = registers.association(association.key_of()) {

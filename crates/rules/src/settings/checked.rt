@@ -23,29 +23,57 @@ use crate::window::Window;
 
 impl Settings {
     // The settings, if each holds its bound; or the first, in their order, that does not.
-    pub fn new(own: u32, ne_id: u64, back: u64, ahead: u64, fallback: bool, listed: Vec<ComponentId>, profile: Vec<ProfileLine>) -> Result<Settings, Refusal>
+    pub fn new(
+        own: u32,
+        ne_id: u64,
+        back: u64,
+        ahead: u64,
+        fallback: bool,
+        listed: Vec<ComponentId>,
+        profile: Vec<ProfileLine>,
+    ) -> Result<Settings, Refusal>
         ensures checked { λ r. ⌜ refusal-of r ≡ first (setting-checks own «ne_id» back ahead (vec-items listed) (vec-items profile)) ⌝ }
         ensures holds { λ r. ⌜ made r (λ s. (s .own ≡ own) × (s .«ne_id» ≡ «ne_id») × (s .back ≡ back) × (s .ahead ≡ ahead) × (s .fallback ≡ fallback) × (s .listed ≡ listed) × (s .profile ≡ profile)) ⌝ }
     {
         if own >= 16_777_216 {
-            return Err(Refusal::WrongSetting { setting: Setting::OwnNetwork });
+            return Err(Refusal::WrongSetting {
+                setting: Setting::OwnNetwork,
+            });
         }
         if ne_id >= 281_474_976_710_656 {
-            return Err(Refusal::WrongSetting { setting: Setting::NeId });
+            return Err(Refusal::WrongSetting {
+                setting: Setting::NeId,
+            });
         }
         if back > 6000 {
-            return Err(Refusal::WrongSetting { setting: Setting::Back });
+            return Err(Refusal::WrongSetting {
+                setting: Setting::Back,
+            });
         }
         if ahead > 600 {
-            return Err(Refusal::WrongSetting { setting: Setting::Ahead });
+            return Err(Refusal::WrongSetting {
+                setting: Setting::Ahead,
+            });
         }
         if (listed.len() > 64) | !kinds_known(&listed) {
-            return Err(Refusal::WrongSetting { setting: Setting::ProtectedList });
+            return Err(Refusal::WrongSetting {
+                setting: Setting::ProtectedList,
+            });
         }
         if (profile.len() > 64) | !levels_known(&profile) | !lines_apart(&profile) {
-            return Err(Refusal::WrongSetting { setting: Setting::ProfileLines });
+            return Err(Refusal::WrongSetting {
+                setting: Setting::ProfileLines,
+            });
         }
-        Ok(Settings { own, ne_id, back, ahead, fallback, listed, profile })
+        Ok(Settings {
+            own,
+            ne_id,
+            back,
+            ahead,
+            fallback,
+            listed,
+            profile,
+        })
     }
 
     // The station's own network.
@@ -68,7 +96,10 @@ impl Settings {
         ensures is { λ r. ⌜ r ≡ record { back = now (self .entry) .back; ahead = now (self .entry) .ahead } ⌝ }
         ensures near { λ r. ⌜ (r .back ≤ 6000) × (r .ahead ≤ 600) ⌝ }
     {
-        Window { back: self.back, ahead: self.ahead }
+        Window {
+            back: self.back,
+            ahead: self.ahead,
+        }
     }
 
     // Whether listed components may come unprotected.

@@ -21,13 +21,21 @@ use register::Register;
 
 impl<'a> Registers<'a> {
     // Empty registers in the places lent: 64, 256 and 4,096 of them are used at most.
-    pub fn new(policies: &'a mut [Option<Policy>], associations: &'a mut [Option<SecurityAssociation>], heard: &'a mut [Option<HeardMessage>]) -> Registers<'a>
+    pub fn new(
+        policies: &'a mut [Option<Policy>],
+        associations: &'a mut [Option<SecurityAssociation>],
+        heard: &'a mut [Option<HeardMessage>],
+    ) -> Registers<'a>
         ensures { λ r. ⌜ New-registers (length (now (policies .entry))) (length (now (associations .entry))) (length (now (heard .entry))) r ⌝ }
     {
         let policies = Register::new(policies);
         let associations = Register::new(associations);
         let heard = Register::new(heard);
-        Registers { policies, associations, heard }
+        Registers {
+            policies,
+            associations,
+            heard,
+        }
     }
 
     pub fn policy(&self, network: u32) -> Option<Policy>
