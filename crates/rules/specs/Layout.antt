@@ -14,6 +14,8 @@ use Rattle.rules.specs.declared.message.SecurityHeader.{SecurityHeader}
 use Rattle.rules.specs.declared.message.IvFields.{IvFields}
 use Rattle.rules.specs.declared.message.Message.{Message}
 use Rattle.rules.specs.declared.message.Message.the-variants.{Open, Sealed}
+use Rattle.rules.specs.declared.message.OpenMessage.{OpenMessage}
+use Rattle.rules.specs.declared.message.SealedMessage.{SealedMessage}
 use Rattle.rules.specs.declared.message.Part.{Part}
 use Rattle.rules.specs.declared.protection.ProtectionMode.{ProtectionMode}
 use Rattle.rules.specs.declared.refusal.Refusal.{Refusal}
@@ -75,27 +77,27 @@ pub record Part-at (xs : List ℕ) (place width : ℕ) (p : Part) : Type 0 where
   pub inside : place + width ≤ length xs
 
 -- an open message is its header and its payload, in this order, and nothing else
-pub record Open-parts (xs : List ℕ) (h p : Part) : Type 0 where
-  pub header : Part-at xs 0 6 h
-  pub payload : Part-at xs 6 (length xs - 6) p
-  pub laid-out : xs ≡ open-message (header-in xs) (p .octets .now)
+pub record Open-parts (xs : List ℕ) (m : OpenMessage) : Type 0 where
+  pub header : Part-at xs 0 6 (m .header)
+  pub payload : Part-at xs 6 (length xs - 6) (m .payload)
+  pub laid-out : xs ≡ open-message (header-in xs) (m .payload .octets .now)
 
 -- a sealed message is its header, its payload and its tag
-pub record Sealed-parts (xs : List ℕ) (h : Part) (f : IvFields) (p t : Part) (n : ℕ) : Type 0 where
-  pub header : Part-at xs 0 20 h
-  pub fields : f ≡ fields-in xs
-  pub payload : Part-at xs 20 (length xs - 24) p
-  pub tag : Part-at xs (length xs - 4) 4 t
-  pub claimed : n ≡ tag-in xs
-  pub laid-out : xs ≡ sealed-message (header-in xs) f (p .octets .now) n
+pub record Sealed-parts (xs : List ℕ) (m : SealedMessage) : Type 0 where
+  pub header : Part-at xs 0 20 (m .header)
+  pub fields : m .fields ≡ fields-in xs
+  pub payload : Part-at xs 20 (length xs - 24) (m .payload)
+  pub tag : Part-at xs (length xs - 4) 4 (m .tag)
+  pub claimed : m .claimed ≡ tag-in xs
+  pub laid-out : xs ≡ sealed-message (header-in xs) (m .fields) (m .payload .octets .now) (m .claimed)
 
 -- What reading answers: the shape of the mode, or that the message is too short for it.
 abbrev pub Reads-as : List ℕ → Bool → Result Message Refusal → Type 0
-Reads-as xs true (Ok (Open h p)) = ⊥
-Reads-as xs true (Ok (Sealed h f p t c)) = Sealed-parts xs h f p t c
+Reads-as xs true (Ok (Open m)) = ⊥
+Reads-as xs true (Ok (Sealed m)) = (24 ≤ length xs) × Sealed-parts xs m
 Reads-as xs true (Err e) = (length xs < 24) × (e ≡ MessageTooShort (length xs))
-Reads-as xs false (Ok (Open h p)) = Open-parts xs h p
-Reads-as xs false (Ok (Sealed h f p t c)) = ⊥
+Reads-as xs false (Ok (Open m)) = (6 ≤ length xs) × Open-parts xs m
+Reads-as xs false (Ok (Sealed m)) = ⊥
 Reads-as xs false (Err e) = (length xs < 6) × (e ≡ MessageTooShort (length xs))
 
 abbrev pub Reads : List ℕ → ProtectionMode → Result Message Refusal → Type 0

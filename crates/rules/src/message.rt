@@ -133,22 +133,28 @@ pub struct Part<'a> {
     pub octets: &'a [u8],
 }
 
+// A message in mode 0.
+#[derive(Clone, Copy)]
+pub struct OpenMessage<'a> {
+    pub header: Part<'a>,
+    pub payload: Part<'a>,
+}
+
+// A message in mode 1 or 2, with what its header and its tag say as numbers.
+#[derive(Clone, Copy)]
+pub struct SealedMessage<'a> {
+    pub header: Part<'a>,
+    pub fields: IvFields,
+    pub payload: Part<'a>,
+    pub tag: Part<'a>,
+    pub claimed: u32,
+}
+
 // What reading yields: one of two shapes, whose parts are the message's own octets.
 #[derive(Drop)]
 pub enum Message<'a> {
-    // mode 0
-    Open {
-        header: Part<'a>,
-        payload: Part<'a>,
-    },
-    // modes 1 and 2, with what the header and the tag say as numbers
-    Sealed {
-        header: Part<'a>,
-        fields: IvFields,
-        payload: Part<'a>,
-        tag: Part<'a>,
-        claimed: u32,
-    },
+    Open(OpenMessage<'a>),
+    Sealed(SealedMessage<'a>),
 }
 
 // The header's fields behind SPI and identifier.
@@ -173,36 +179,21 @@ pub fn read(message: &[u8], mode: ProtectionMode) -> Result<Message<'_>, Refusal
             return Err(Refusal::MessageTooShort { length });
         }
         let end = length - 4;
-        return Ok(Message::Sealed {
-            header: Part {
-                place: 0,
-                octets: &message[0..20],
-            },
+        return Ok(Message::Sealed(SealedMessage {
+            header: Part { place: 0, octets: &message[0..20] },
             fields: fields_of(message),
-            payload: Part {
-                place: 20,
-                octets: &message[20..end],
-            },
-            tag: Part {
-                place: end,
-                octets: &message[end..length],
-            },
+            payload: Part { place: 20, octets: &message[20..end] },
+            tag: Part { place: end, octets: &message[end..length] },
             claimed: u32_at(message, end),
-        });
+        }));
     }
     if length < 6 {
         return Err(Refusal::MessageTooShort { length });
     }
-    Ok(Message::Open {
-        header: Part {
-            place: 0,
-            octets: &message[0..6],
-        },
-        payload: Part {
-            place: 6,
-            octets: &message[6..length],
-        },
-    })
+    Ok(Message::Open(OpenMessage {
+        header: Part { place: 0, octets: &message[0..6] },
+        payload: Part { place: 6, octets: &message[6..length] },
+    }))
 }
 
 // The theorem: reading what was laid out gives the fields back.
