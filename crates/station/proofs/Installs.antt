@@ -23,7 +23,7 @@ use Rattle.station.specs.declared.station.Station.{Station}
 use Rattle.station.specs.Clock.{clock-checks, read-at}
 use Rattle.station.specs.Install.{field-checks, place-checks, install-checks, Installed}
 use Rattle.station.specs.Records.{association-key, association-last}
-use Rattle.station.specs.States.{Contents, Associations, association-under, live-count, Room-for, Association-added}
+use Rattle.station.specs.States.{Contents, Associations, association-under, live-count, Room-for-association, Association-added}
 
 -- no answer is both a refusal and an outcome
 pub not-both : {V R : Type 0} {P : Type 0} (answer : Result V R) (r : R) → answer ≡ Err r → isOk answer ≡ true → P
@@ -60,7 +60,7 @@ module _ (ciphers : Ciphers) (tags : Tags) (reading : ℕ) (a : SecurityAssociat
       last-stage = passes clock (fields ++ place) done done done read ∙ passes fields place done done done right
 
       module _ (free : Ok done ≡ decided place done) where
-        pub room : Room-for a reading (before .associations)
+        pub room : Room-for-association a reading (before .associations)
         room = let p = passed place done done free in record { key-free = none-of _ (p .0); place-free = leb-false _ _ (p .1 .0) }
 
         pub takes : (after : Contents) → Association-added a reading (before .associations) (after .associations) → after .policies ≡ before .policies → after .heard ≡ before .heard → Installed ciphers tags reading a s (read-at reading s) before after (Ok done)

@@ -7,4 +7,5 @@ pub mod Protect
 pub mod Records
 pub mod Revoke
 pub mod Seal
+pub mod Slips
 pub mod States

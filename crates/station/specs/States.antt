@@ -37,6 +37,10 @@ association-under key places = lookup association-key same-association key place
 abbrev pub heard-under : HeardKey → Heard → Option HeardMessage
 heard-under key places = lookup (λ h. h .key) same-heard key places
 
+-- a heard message whose last tick is not past, or none
+abbrev pub fresh-under : ℕ → HeardKey → Heard → Option HeardMessage
+fresh-under reading key places = not-past (λ h. h .last) reading (heard-under key places)
+
 -- how many associations have a last tick that is not past
 abbrev pub live-count : ℕ → Associations → ℕ
 live-count reading places = count-not-past association-last reading places
@@ -76,16 +80,28 @@ pub record Policy-set (network : ℕ) (p : Option Policy) (before after : Polici
   pub counted : held-count after + one (policy-under network before) ≡ held-count before + one p
   pub places : length after ≡ length before
 
--- what an association needs to be added: its key is not held by one whose last tick is not past, and these leave a place
-pub record Room-for (a : SecurityAssociation) (reading : ℕ) (places : Associations) : Type 0 where
-  pub key-free : not-past association-last reading (association-under (association-key a) places) ≡ None
-  pub place-free : live-count reading places < length places
+-- what a record needs to be added at a tick: its key is not held by one whose last tick is not past, and these leave a place
+pub record Room-for {R K : Type 0} (key : R → K) (same : K → K → Bool) (last : R → ℕ) (r : R) (tick : ℕ) (places : List (Option R)) : Type 0 where
+  pub key-free : not-past last tick (lookup key same (key r) places) ≡ None
+  pub place-free : count-not-past last tick places < length places
 
--- Associations whose last tick is past are dropped, and a is held under its key.
-pub record Association-added (a : SecurityAssociation) (reading : ℕ) (before after : Associations) : Type 0 where
-  pub under : (k : AssociationKey) → association-under k after ≡ cond (same-association k (association-key a)) (Some a) (not-past association-last reading (association-under k before))
-  pub counted : held-count after ≡ live-count reading before + 1
+-- Records whose last tick is past are dropped, and r is held under its key.
+pub record Added {R K : Type 0} (key : R → K) (same : K → K → Bool) (last : R → ℕ) (r : R) (tick : ℕ) (before after : List (Option R)) : Type 0 where
+  pub under : (k : K) → lookup key same k after ≡ cond (same k (key r)) (Some r) (not-past last tick (lookup key same k before))
+  pub counted : held-count after ≡ count-not-past last tick before + 1
   pub places : length after ≡ length before
+
+abbrev pub Room-for-association : SecurityAssociation → ℕ → Associations → Type 0
+Room-for-association a reading places = Room-for association-key same-association association-last a reading places
+
+abbrev pub Association-added : SecurityAssociation → ℕ → Associations → Associations → Type 0
+Association-added a reading before after = Added association-key same-association association-last a reading before after
+
+abbrev pub Room-for-heard : HeardMessage → ℕ → Heard → Type 0
+Room-for-heard h reading places = Room-for (λ m. m .key) same-heard (λ m. m .last) h reading places
+
+abbrev pub Heard-added : HeardMessage → ℕ → Heard → Heard → Type 0
+Heard-added h reading before after = Added (λ m. m .key) same-heard (λ m. m .last) h reading before after
 
 -- The association under a key is dropped.
 pub record Association-removed (key : AssociationKey) (before after : Associations) : Type 0 where

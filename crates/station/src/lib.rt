@@ -4,4 +4,5 @@ pub mod protect;
 pub mod records;
 pub mod registers;
 mod seal;
+pub mod slip;
 pub mod station;

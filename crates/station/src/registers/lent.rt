@@ -7,9 +7,11 @@ ghost use lib.Dec.{eqb, ltb};
 ghost use Rattle.std.specs.Options.{isSome};
 ghost use Rattle.std.specs.declared.option.Option.the-variants.{Some, None};
 ghost use Rattle.register.specs.Places.{held-count};
-ghost use Rattle.station.specs.States.{policy-under, association-under, New-registers, live-count, contents-of, Policy-set, Room-for, Association-added, Association-removed};
+ghost use Rattle.station.specs.States.{policy-under, association-under, New-registers, live-count, contents-of, Policy-set, Room-for-association, Association-added, Association-removed, fresh-under, fresh-count, Room-for-heard, Heard-added};
 use crate::records::AssociationKey;
+use crate::records::HeardKey;
 use crate::records::HeardMessage;
+use crate::records::HeardMessageEnding;
 use crate::records::HeardMessageKeyed;
 use crate::records::Policy;
 use crate::records::PolicyKeyed;
@@ -96,7 +98,7 @@ impl<'a> Registers<'a> {
 
     // Drops the associations whose last tick is past, and holds one more; there has to be a place for it.
     pub(crate) fn add_association(&mut self, association: SecurityAssociation, reading: u64)
-        ensures added { λ _. ⌜ (Room-for association reading (now (now (self .entry) .associations .places)) → Association-added association reading (now (now (self .entry) .associations .places)) (now (now (self .exit) .associations .places))) ⌝ }
+        ensures added { λ _. ⌜ (Room-for-association association reading (now (now (self .entry) .associations .places)) → Association-added association reading (now (now (self .entry) .associations .places)) (now (now (self .exit) .associations .places))) ⌝ }
         ensures others { λ _. ⌜ (now (now (self .exit) .policies .places) ≡ now (now (self .entry) .policies .places)) × (now (now (self .exit) .heard .places) ≡ now (now (self .entry) .heard .places)) ⌝ }
     {
         self.associations.drop_past(reading);
@@ -111,5 +113,37 @@ impl<'a> Registers<'a> {
         ensures others { λ _. ⌜ (now (now (self .exit) .policies .places) ≡ now (now (self .entry) .policies .places)) × (now (now (self .exit) .heard .places) ≡ now (now (self .entry) .heard .places)) ⌝ }
     {
         self.associations.remove(key)
+    }
+
+    // The message that was heard under a key, if its last tick is not before the reading.
+    pub fn heard_fresh(&self, key: HeardKey, reading: u64) -> bool
+        ensures { λ r. ⌜ r ≡ isSome (fresh-under reading key (now (now (self .entry) .heard .places))) ⌝ }
+    {
+        match self.heard.find(key) {
+            Some(heard) => heard.last >= reading,
+            None => false,
+        }
+    }
+
+    // How many heard messages have a last tick that is not before the reading.
+    pub fn heard_count(&self, reading: u64) -> usize
+        ensures { λ r. ⌜ r ≡ fresh-count reading (now (now (self .entry) .heard .places)) ⌝ }
+    {
+        self.heard.count_not_past(reading)
+    }
+
+    pub fn heard_capacity(&self) -> usize
+        ensures { λ r. ⌜ r ≡ length (now (now (self .entry) .heard .places)) ⌝ }
+    {
+        self.heard.capacity()
+    }
+
+    // Drops the heard messages whose last tick is past, and remembers one more; there has to be a place for it.
+    pub(crate) fn remember(&mut self, heard: HeardMessage, reading: u64)
+        ensures added { λ _. ⌜ (Room-for-heard heard reading (now (now (self .entry) .heard .places)) → Heard-added heard reading (now (now (self .entry) .heard .places)) (now (now (self .exit) .heard .places))) ⌝ }
+        ensures others { λ _. ⌜ (now (now (self .exit) .policies .places) ≡ now (now (self .entry) .policies .places)) × (now (now (self .exit) .associations .places) ≡ now (now (self .entry) .associations .places)) ⌝ }
+    {
+        self.heard.drop_past(reading);
+        let _ = self.heard.put(heard);
     }
 }
