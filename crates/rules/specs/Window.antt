@@ -1,6 +1,6 @@
 -- Stamps of 32 bits beside a clock that counts on.
 use mathlib.Core.Path.{_≡_}
-use mathlib.Core.Bool.{Bool, _||_}
+use mathlib.Core.Bool.{Bool, cond, _||_}
 use Prim.Native.Nat.{ℕ, _+_, _-_, _%_}
 use lib.Dec.{leb}
 use lib.IntN.{ℤ, pos, _+ℤ_, _-ℤ_, _*ℤ_}
@@ -17,6 +17,10 @@ lead reading stamp = (stamp + (4294967296 - reading % 4294967296)) % 4294967296
 -- not older than back, or not further ahead than ahead
 abbrev pub in-window : ℕ → ℕ → ℕ → ℕ → Bool
 in-window back ahead reading stamp = leb (age reading stamp) back || leb (lead reading stamp) ahead
+
+-- the last tick at which a stamp that is in the window at the reading is still in it
+abbrev pub last-tick : ℕ → ℕ → ℕ → ℕ
+last-tick back reading stamp = cond (leb (age reading stamp) back) (reading + back - age reading stamp) (reading + lead reading stamp + back)
 
 -- a tick, which may lie before 0, has a stamp: it is whole rounds of 2^32 ticks away from it
 abbrev pub Has-stamp : ℤ → ℕ → Type 0

@@ -1,8 +1,8 @@
 // Stamps, and the window in which one is fresh.
 ghost use mathlib.Core.Path.{_≡_};
-ghost use Prim.Native.Nat.{_%_};
+ghost use Prim.Native.Nat.{_%_, _<_, _≤_};
 ghost use Rattle.std.specs.Orderings.{Decides};
-ghost use Rattle.rules.specs.Window.{age as age-of, lead as lead-of, in-window, Some-tick-near};
+ghost use Rattle.rules.specs.Window.{age as age-of, lead as lead-of, in-window, last-tick, Some-tick-near};
 
 // The stamp (TVP) that is made at a reading: the reading modulo 2^32.
 pub fn stamp_at(reading: u64) -> u32
@@ -40,5 +40,17 @@ impl Window {
     {
         (u64::from(age(reading, stamp)) <= self.back)
             | (u64::from(lead(reading, stamp)) <= self.ahead)
+    }
+
+    // The last tick at which a stamp that is fresh at the reading is still fresh.
+    // The sum is taken before the difference: a reading may be smaller than an age.
+    pub fn last_tick(self, reading: u64, stamp: u32) -> u64
+        ensures { λ r. ⌜ (reading < 281474976710656 → self .back ≤ 6000 → r ≡ last-tick (self .back) reading stamp) ⌝ }
+    {
+        let age = u64::from(age(reading, stamp));
+        if age <= self.back {
+            return reading.saturating_add(self.back).saturating_sub(age);
+        }
+        reading.saturating_add(u64::from(lead(reading, stamp))).saturating_add(self.back)
     }
 }

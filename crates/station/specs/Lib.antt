@@ -4,6 +4,7 @@ pub mod Clock
 pub mod Forms
 pub mod Install
 pub mod Protect
+pub mod Receive
 pub mod Records
 pub mod Revoke
 pub mod Seal

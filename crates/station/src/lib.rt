@@ -1,6 +1,7 @@
 // A MAPsec station: its records, its registers and its calls.
 mod choice;
 pub mod protect;
+pub mod receive;
 pub mod records;
 pub mod registers;
 mod seal;

@@ -1,0 +1,127 @@
+// Receive: from the octets of a message to a component.
+ghost use mathlib.Core.Path.{_≡_};
+ghost use mathlib.Core.List.{_++_};
+ghost use Prim.Native.Nat.{_<_, _≤_};
+ghost use lib.ListN.{length};
+ghost use Rattle.rules.specs.Checks.{decided};
+ghost use Rattle.rules.specs.Layout.{header-in};
+ghost use Rattle.rules.specs.Window.{last-tick};
+ghost use Rattle.station.specs.Forms.{association-or-blank};
+ghost use Rattle.station.specs.Receive.{from-network, association-of, entrance-checks, open-checks, fresh-checks, room-checks, heard-key};
+ghost use Rattle.station.specs.States.{contents-of};
+use crate::records::AssociationKey;
+use crate::records::HeardKey;
+use crate::records::SecurityAssociation;
+use crate::records::Stance;
+use crate::registers::Registers;
+use crate::station::Station;
+use banks::tag::TagBank;
+use rules::component::ComponentId;
+use rules::message::IvFields;
+use rules::message::SealedMessage;
+use rules::message::SecurityHeader;
+use rules::protection::ProtectionMode;
+use rules::refusal::Refusal;
+
+// A component that is handed on; its cleartext is at the front of the output.
+#[derive(Clone, Copy)]
+pub struct Handed {
+    pub component: ComponentId,
+    pub mode: ProtectionMode,
+    pub length: usize,
+}
+
+// What a sealed message is known by once it was heard.
+fn key_of(network: u32, spi: u32, fields: IvFields) -> HeardKey
+    ensures { λ r. ⌜ r ≡ heard-key network spi fields ⌝ }
+{
+    HeardKey { network, spi, tvp: fields.tvp, ne_id: fields.ne_id, prop: fields.prop }
+}
+
+// Room for the cleartext, and for one more heard message.
+fn room(registers: &Registers<'_>, reading: u64, needed: usize, output: usize) -> Result<(), Refusal>
+    ensures { λ r. ⌜ r ≡ decided (room-checks (now (now (registers .entry) .heard .places)) reading needed output) tt ⌝ }
+{
+    if output < needed {
+        return Err(Refusal::OutputTooShort { needed });
+    }
+    let capacity = registers.heard_capacity();
+    if registers.heard_count(reading) >= capacity {
+        return Err(Refusal::HeardFull { capacity });
+    }
+    Ok(())
+}
+
+impl Station {
+    // The association that a network sends under to this station, with an SPI.
+    fn association_from(&self, registers: &Registers<'_>, reading: u64, network: u32, spi: u32) -> Option<SecurityAssociation>
+        ensures { λ r. ⌜ r ≡ association-of (now (self .entry) .settings .own) reading network spi (contents-of (now (registers .entry))) ⌝ }
+    {
+        match registers.association(AssociationKey { destination: self.settings.own(), spi }) {
+            Some(association) => {
+                if (association.sender == network) & association.is_live(reading) {
+                    Some(association)
+                } else {
+                    None
+                }
+            }
+            None => None,
+        }
+    }
+
+    // The header of a message, which has to be of a known kind, from a network that sends MAPsec, under a live association.
+    fn entrance(&self, registers: &Registers<'_>, reading: u64, network: u32, message: &[u8]) -> Result<(SecurityHeader, SecurityAssociation), Refusal>
+        ensures { λ r. ⌜ r ≡ decided (entrance-checks (now (self .entry) .settings) (contents-of (now (registers .entry))) reading network (now (message .entry))) (header-in (now (message .entry)), association-or-blank (association-of (now (self .entry) .settings .own) reading network (header-in (now (message .entry)) .spi) (contents-of (now (registers .entry))))) ⌝ }
+    {
+        let header = SecurityHeader::read(message)?;
+        if header.component.known_kind().is_none() {
+            return Err(Refusal::UnknownKind { place: 4 });
+        }
+        let Some(policy) = registers.policy(network) else {
+            return Err(Refusal::NoPolicy);
+        };
+        if let Stance::Plain = policy.stance {
+            return Err(Refusal::SecuredFromPlainNetwork);
+        }
+        match self.association_from(registers, reading, network, header.spi) {
+            Some(association) => Ok((header, association)),
+            None => Err(Refusal::NoLiveAssociation),
+        }
+    }
+
+    // An open message: not too long, not of the protected list where there is no fallback, and with room for it.
+    fn open(&self, component: ComponentId, payload: &[u8], output: usize) -> Result<(), Refusal>
+        ensures { λ r. ⌜ r ≡ decided (open-checks (now (self .entry) .settings) component (now (payload .entry)) output) tt ⌝ }
+    {
+        let needed = payload.len();
+        if needed > 1024 {
+            return Err(Refusal::CleartextTooLong { place: 6 });
+        }
+        if self.settings.lists(component) & !self.settings.fallback() {
+            return Err(Refusal::ListedUnprotected { place: 4 });
+        }
+        if output < needed {
+            return Err(Refusal::OutputTooShort { needed });
+        }
+        Ok(())
+    }
+
+    // A sealed message: fresh, rightly tagged, and not heard before. It answers the last tick at which it is still fresh.
+    fn fresh<T: TagBank>(&self, registers: &Registers<'_>, tags: &mut T, reading: u64, key: HeardKey, association: &SecurityAssociation, message: &SealedMessage<'_>) -> Result<u64, Refusal>
+        requires { ⌜ reading < 281474976710656 ⌝ }
+        ensures tags { λ _. ⌜ T·TagBank .means (now (tags .exit)) ≡ T·TagBank .means (now (tags .entry)) ⌝ }
+        ensures answer { λ r. ⌜ r ≡ decided (fresh-checks (now (self .entry) .settings) (T·TagBank .means (now (tags .entry))) (now (now (registers .entry) .heard .places)) reading key (now (association .entry)) (now (now (message .entry) .header .octets) ++ now (now (message .entry) .payload .octets)) (now (message .entry) .claimed) (now (message .entry) .tag .place)) (last-tick (now (self .entry) .settings .back) reading (key .tvp)) ⌝ }
+    {
+        let window = self.settings.window();
+        if !window.contains(reading, key.tvp) {
+            return Err(Refusal::OutsideWindow);
+        }
+        if tags.tag(association.mia, &association.integrity_key, message.header.octets, message.payload.octets) != message.claimed {
+            return Err(Refusal::TagDiffers { place: message.tag.place });
+        }
+        if registers.heard_fresh(key, reading) {
+            return Err(Refusal::HeardBefore);
+        }
+        Ok(window.last_tick(reading, key.tvp))
+    }
+}
