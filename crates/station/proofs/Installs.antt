@@ -29,7 +29,7 @@ use Rattle.station.specs.States.{Contents, Associations, association-under, li
 pub not-both : {V R : Type 0} {P : Type 0} (answer : Result V R) (r : R) → answer ≡ Err r → isOk answer ≡ true → P
 not-both answer r is ok = absurd (both-ways (isOk answer) (ap isOk is) ok)
 
-none-of : {X : Type 0} (o : Option X) → isSome o ≡ false → o ≡ None
+pub none-of : {X : Type 0} (o : Option X) → isSome o ≡ false → o ≡ None
 none-of None e = refl
 none-of (Some x) e = absurd (let z : _≡_ {A = ℕ} 0 1 = cc in omega arith)
 

@@ -1,5 +1,6 @@
 pub mod Installs
 pub mod Preferences
 pub mod Protects
+pub mod Receives
 pub mod Turns
 pub mod Writes

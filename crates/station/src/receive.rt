@@ -1,20 +1,26 @@
 // Receive: from the octets of a message to a component.
 ghost use mathlib.Core.Path.{_≡_};
+ghost use mathlib.Core.Bool.{true};
 ghost use mathlib.Core.List.{_++_};
 ghost use Prim.Native.Nat.{_<_, _≤_};
-ghost use lib.ListN.{length};
+ghost use lib.ListN.{length, drop};
+ghost use Rattle.std.specs.Results.{isOk, isErr};
 ghost use Rattle.rules.specs.Checks.{decided};
 ghost use Rattle.rules.specs.Layout.{header-in};
 ghost use Rattle.rules.specs.Window.{last-tick};
+ghost use Rattle.station.specs.Clock.{read-at};
 ghost use Rattle.station.specs.Forms.{association-or-blank};
-ghost use Rattle.station.specs.Receive.{from-network, association-of, entrance-checks, open-checks, fresh-checks, room-checks, heard-key};
+ghost use Rattle.station.specs.Receive.{from-network, association-of, entrance-checks, open-checks, fresh-checks, room-checks, heard-key, Hands-over};
 ghost use Rattle.station.specs.States.{contents-of};
 use crate::records::AssociationKey;
 use crate::records::HeardKey;
+use crate::records::HeardMessage;
 use crate::records::SecurityAssociation;
 use crate::records::Stance;
 use crate::registers::Registers;
+use crate::seal::turn;
 use crate::station::Station;
+use banks::cipher::CipherBank;
 use banks::tag::TagBank;
 use rules::component::ComponentId;
 use rules::message::IvFields;
@@ -123,5 +129,49 @@ impl Station {
             return Err(Refusal::HeardBefore);
         }
         Ok(window.last_tick(reading, key.tvp))
+    }
+
+    // Hands on an open message.
+    fn hand_open(&mut self, reading: u64, handed: Handed, payload: &[u8], output: &mut [u8]) -> Result<Handed, Refusal>
+        ensures answer { λ r. ⌜ r ≡ decided (open-checks (now (self .entry) .settings) (handed .component) (now (payload .entry)) (length (now (output .entry)))) handed ⌝ }
+        ensures refused { λ r. ⌜ (isErr r ≡ true → (now (self .exit) ≡ now (self .entry)) × (now (output .exit) ≡ now (output .entry))) ⌝ }
+        ensures accepted { λ r. ⌜ (isOk r ≡ true → (now (self .exit) ≡ read-at reading (now (self .entry))) × (now (output .exit) ≡ now (payload .entry) ++ drop (length (now (payload .entry))) (now (output .entry)))) ⌝ }
+    {
+        self.open(handed.component, payload, output.len())?;
+        output[0..payload.len()].copy_from_slice(payload);
+        self.latest = reading;
+        Ok(handed)
+    }
+
+    // Hands on a sealed message, and remembers that it was heard.
+    fn hand_sealed<C: CipherBank, T: TagBank>(
+        &mut self,
+        registers: &mut Registers<'_>,
+        ciphers: &mut C,
+        tags: &mut T,
+        reading: u64,
+        key: HeardKey,
+        association: &SecurityAssociation,
+        handed: Handed,
+        message: &SealedMessage<'_>,
+        output: &mut [u8],
+    ) -> Result<Handed, Refusal>
+        requires { ⌜ reading < 281474976710656 ⌝ }
+        ensures ciphers { λ _. ⌜ C·CipherBank .means (now (ciphers .exit)) ≡ C·CipherBank .means (now (ciphers .entry)) ⌝ }
+        ensures tags { λ _. ⌜ T·TagBank .means (now (tags .exit)) ≡ T·TagBank .means (now (tags .entry)) ⌝ }
+        ensures hands { λ r. ⌜ Hands-over (record { station = now (self .entry); contents = contents-of (now (registers .entry)); ciphers = C·CipherBank .means (now (ciphers .entry)); tags = T·TagBank .means (now (tags .entry)); reading = reading; key = key; association = now (association .entry); handed = handed; message = now (message .entry); output = now (output .entry) }) (now (self .exit)) (contents-of (now (registers .exit))) (now (output .exit)) r ⌝ }
+    {
+        let payload = message.payload.octets;
+        let needed = payload.len();
+        if needed > 1024 {
+            return Err(Refusal::CleartextTooLong { place: 20 });
+        }
+        let last = self.fresh(registers, tags, reading, key, association, message)?;
+        room(registers, reading, needed, output.len())?;
+        output[0..needed].copy_from_slice(payload);
+        turn(ciphers, association, message.fields, handed.mode, &mut output[0..needed]);
+        registers.remember(HeardMessage { key, last }, reading);
+        self.latest = reading;
+        Ok(handed)
     }
 }
