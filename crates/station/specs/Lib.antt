@@ -3,6 +3,7 @@ pub mod Choice
 pub mod Clock
 pub mod Forms
 pub mod Install
+pub mod Plain
 pub mod Protect
 pub mod Receive
 pub mod Records

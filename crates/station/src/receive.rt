@@ -10,8 +10,11 @@ ghost use Rattle.rules.specs.Layout.{header-in};
 ghost use Rattle.rules.specs.Window.{last-tick};
 ghost use Rattle.station.specs.Clock.{read-at};
 ghost use Rattle.station.specs.Forms.{association-or-blank};
-ghost use Rattle.station.specs.Receive.{from-network, association-of, entrance-checks, open-checks, fresh-checks, room-checks, heard-key, Hands-over};
+ghost use Rattle.station.specs.Receive.{from-network, association-of, entrance-checks, open-checks, fresh-checks, room-checks, heard-key, Hands-over, Received};
+ghost use Rattle.station.specs.Plain.{Taken-plain};
+ghost use Rattle.station.specs.Slips.{refusal-number};
 ghost use Rattle.station.specs.States.{contents-of};
+use crate::protect::form;
 use crate::records::AssociationKey;
 use crate::records::HeardKey;
 use crate::records::HeardMessage;
@@ -19,13 +22,17 @@ use crate::records::SecurityAssociation;
 use crate::records::Stance;
 use crate::registers::Registers;
 use crate::seal::turn;
+use crate::slip::Answer;
+use crate::slip::with_slip;
 use crate::station::Station;
 use banks::cipher::CipherBank;
 use banks::tag::TagBank;
 use rules::component::ComponentId;
 use rules::message::IvFields;
+use rules::message::Message;
 use rules::message::SealedMessage;
 use rules::message::SecurityHeader;
+use rules::message::read;
 use rules::protection::ProtectionMode;
 use rules::refusal::Refusal;
 
@@ -173,5 +180,77 @@ impl Station {
         registers.remember(HeardMessage { key, last }, reading);
         self.latest = reading;
         Ok(handed)
+    }
+
+    // Takes a message apart, and hands its component on.
+    fn take<C: CipherBank, T: TagBank>(
+        &mut self,
+        registers: &mut Registers<'_>,
+        ciphers: &mut C,
+        tags: &mut T,
+        reading: u64,
+        network: u32,
+        message: &[u8],
+        output: &mut [u8],
+    ) -> Result<Handed, Refusal>
+        ensures ciphers { λ _. ⌜ C·CipherBank .means (now (ciphers .exit)) ≡ C·CipherBank .means (now (ciphers .entry)) ⌝ }
+        ensures tags { λ _. ⌜ T·TagBank .means (now (tags .exit)) ≡ T·TagBank .means (now (tags .entry)) ⌝ }
+        ensures received { λ r. ⌜ Received (record { station = now (self .entry); contents = contents-of (now (registers .entry)); ciphers = C·CipherBank .means (now (ciphers .entry)); tags = T·TagBank .means (now (tags .entry)); reading = reading; network = network; message = now (message .entry); output = now (output .entry) }) (now (self .exit)) (contents-of (now (registers .exit))) (now (output .exit)) r ⌝ }
+    {
+        self.clock(reading)?;
+        let (header, association) = self.entrance(registers, reading, network, message)?;
+        let mode = self.settings.mode(association.ppi, header.component);
+        match read(message, mode)? {
+            Message::Open(open) => {
+                let handed = Handed { component: header.component, mode, length: open.payload.octets.len() };
+                self.hand_open(reading, handed, open.payload.octets, output)
+            }
+            Message::Sealed(sealed) => {
+                let handed = Handed { component: header.component, mode, length: sealed.payload.octets.len() };
+                let key = key_of(network, header.spi, sealed.fields);
+                self.hand_sealed(registers, ciphers, tags, reading, key, &association, handed, &sealed, output)
+            }
+        }
+    }
+
+    // Receives a message: its component with the cleartext at the front of the output, or why not; and a slip to be closed.
+    pub(crate) fn receive<C: CipherBank, T: TagBank>(
+        &mut self,
+        registers: &mut Registers<'_>,
+        ciphers: &mut C,
+        tags: &mut T,
+        reading: u64,
+        network: u32,
+        waiting: bool,
+        message: &[u8],
+        output: &mut [u8],
+    ) -> Answer<Handed>
+        ensures ciphers { λ _. ⌜ C·CipherBank .means (now (ciphers .exit)) ≡ C·CipherBank .means (now (ciphers .entry)) ⌝ }
+        ensures tags { λ _. ⌜ T·TagBank .means (now (tags .exit)) ≡ T·TagBank .means (now (tags .entry)) ⌝ }
+        ensures received { λ r. ⌜ Received (record { station = now (self .entry); contents = contents-of (now (registers .entry)); ciphers = C·CipherBank .means (now (ciphers .entry)); tags = T·TagBank .means (now (tags .entry)); reading = reading; network = network; message = now (message .entry); output = now (output .entry) }) (now (self .exit)) (contents-of (now (registers .exit))) (now (output .exit)) (r .outcome) ⌝ }
+        ensures slip { λ r. ⌜ r .slip ≡ record { number = refusal-number (r .outcome); waiting = waiting } ⌝ }
+    {
+        with_slip(self.take(registers, ciphers, tags, reading, network, message, output), waiting)
+    }
+
+    // The checks of a component that came without MAPsec.
+    fn take_plain(&mut self, reading: u64, component: ComponentId, length: usize) -> Result<Handed, Refusal>
+        ensures { λ r. ⌜ Taken-plain reading component length (now (self .entry)) (now (self .exit)) r ⌝ }
+    {
+        self.clock(reading)?;
+        form(component, length)?;
+        if self.settings.lists(component) & !self.settings.fallback() {
+            return Err(Refusal::ListedUnprotected { place: 0 });
+        }
+        self.latest = reading;
+        Ok(Handed { component, mode: ProtectionMode::NoProtection, length })
+    }
+
+    // Takes a component that came without MAPsec, and writes nothing; a slip is left to be closed.
+    pub(crate) fn plain(&mut self, reading: u64, component: ComponentId, waiting: bool, cleartext: &[u8]) -> Answer<Handed>
+        ensures taken { λ r. ⌜ Taken-plain reading component (length (now (cleartext .entry))) (now (self .entry)) (now (self .exit)) (r .outcome) ⌝ }
+        ensures slip { λ r. ⌜ r .slip ≡ record { number = refusal-number (r .outcome); waiting = waiting } ⌝ }
+    {
+        with_slip(self.take_plain(reading, component, cleartext.len()), waiting)
     }
 }
