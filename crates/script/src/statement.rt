@@ -1,4 +1,16 @@
 // The statements of the command language.
+ghost use mathlib.Core.Path.{_≡_};
+ghost use Rattle.std.specs.Orderings.{Decides};
+ghost use Rattle.std.specs.Text.{Utf8};
+ghost use Rattle.std.specs.declared.result.Result.the-variants.{Err};
+ghost use Rattle.script.specs.Reading.{Complaint, told};
+ghost use Rattle.script.specs.Statements.{station, listed, profile, begun, statement};
+ghost use Rattle.script.specs.declared.fault.Expected.the-variants.{Text as NoText};
+use crate::fault::Expected;
+use crate::fault::Fault;
+use crate::fault::Keyword;
+use crate::words::Words;
+use crate::words::is;
 
 /// One of the two stations of a run.
 #[derive(Clone, Copy, Debug, PartialEq)]
@@ -22,3 +34,81 @@ pub enum Statement {
     Profile { name: Name, ppi: u16, code: u8, level: u8 },
 }
 
+/// `station NAME own N ne N back N ahead N fallback yes|no [places N N N]`, from its name on.
+fn station<'a>(words: &mut Words<'a>) -> Result<Statement, Fault<'a>>
+    ensures { λ r. ⌜ told r ≡ station (now (now (words .entry) .rest)) ⌝ }
+{
+    let name = words.name()?;
+    let own = words.field(Keyword::Own, u32::MAX as u64)?;
+    let ne_id = words.field(Keyword::Ne, u64::MAX)?;
+    let back = words.field(Keyword::Back, u64::MAX)?;
+    let ahead = words.field(Keyword::Ahead, u64::MAX)?;
+    let fallback = words.switch(Keyword::Fallback)?;
+    let places = words.places()?;
+    Ok(Statement::Station { name, own: own as u32, ne_id, back, ahead, fallback, places })
+}
+
+/// `listed NAME KIND CODE`, from its name on.
+fn listed<'a>(words: &mut Words<'a>) -> Result<Statement, Fault<'a>>
+    ensures { λ r. ⌜ told r ≡ listed (now (now (words .entry) .rest)) ⌝ }
+{
+    let name = words.name()?;
+    let kind = words.number(u8::MAX as u64)?;
+    let code = words.number(u8::MAX as u64)?;
+    words.end()?;
+    Ok(Statement::Listed { name, kind: kind as u8, code: code as u8 })
+}
+
+/// `profile NAME PPI CODE LEVEL`, from its name on.
+fn profile<'a>(words: &mut Words<'a>) -> Result<Statement, Fault<'a>>
+    ensures { λ r. ⌜ told r ≡ profile (now (now (words .entry) .rest)) ⌝ }
+{
+    let name = words.name()?;
+    let ppi = words.number(u16::MAX as u64)?;
+    let code = words.number(u8::MAX as u64)?;
+    let level = words.number(u8::MAX as u64)?;
+    words.end()?;
+    Ok(Statement::Profile { name, ppi: ppi as u16, code: code as u8, level: level as u8 })
+}
+
+/// The statement that a first word begins.
+fn begun<'a>(word: &'a [u8], words: &mut Words<'a>) -> Result<Statement, Fault<'a>>
+    ensures { λ r. ⌜ told r ≡ begun (now (word .entry)) (now (now (words .entry) .rest)) ⌝ }
+{
+    if is(word, b"station") {
+        station(words)
+    } else if is(word, b"listed") {
+        listed(words)
+    } else if is(word, b"profile") {
+        profile(words)
+    } else {
+        Err(Fault { found: word, expected: Expected::Statement })
+    }
+}
+
+/// Whether octets are UTF-8.
+fn is_text(octets: &[u8]) -> bool
+    ensures { λ r. ⌜ Decides r (Utf8 (now (octets .entry))) ⌝ }
+{
+    match std::str::from_utf8(octets) {
+        Ok(_) => true,
+        Err(_) => false,
+    }
+}
+
+/// The statement of a line; none, where the line has no word.
+pub fn read_statement(line: &[u8]) -> Result<Option<Statement>, Fault<'_>>
+    ensures text { λ r. ⌜ (Utf8 (now (line .entry)) → told r ≡ statement (now (line .entry))) ⌝ }
+    ensures not_text { λ r. ⌜ ((Utf8 (now (line .entry)) → ⊥) → told r ≡ Err (now (line .entry), NoText)) ⌝ }
+{
+    if !is_text(line) {
+        return Err(Fault { found: line, expected: Expected::Text });
+    }
+    let mut words = Words::of(line);
+    let word = words.next();
+    if word.is_empty() {
+        return Ok(None);
+    }
+    let statement = begun(word, &mut words)?;
+    Ok(Some(statement))
+}

@@ -178,7 +178,7 @@ impl<'a> Words<'a> {
 }
 
 /// Whether a word is spelled so.
-fn is(word: &[u8], text: &[u8]) -> bool
+pub fn is(word: &[u8], text: &[u8]) -> bool
     ensures { λ r. ⌜ r ≡ sameBytes (now (word .entry)) (now (text .entry)) ⌝ }
 {
     word == text
