@@ -1,4 +1,5 @@
-pub mod Words
+pub mod Lines
 pub mod Numbers
 pub mod Reading
 pub mod Statements
+pub mod Words

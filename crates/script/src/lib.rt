@@ -1,5 +1,6 @@
 // The command language of the gateway: lines of words, read into statements.
 pub mod fault;
+pub mod lines;
 pub mod numbers;
 pub mod statement;
 pub mod words;

@@ -1,10 +1,13 @@
 // Numbers and octets as the command language writes them.
 ghost use mathlib.Core.Path.{_≡_};
-ghost use Prim.Native.Nat.{_≤_};
+ghost use Prim.Native.Nat.{_≤_, _<_};
+ghost use Rattle.std.specs.Numbers.{Checked};
 ghost use Rattle.std.specs.Options.{mapped};
+ghost use Rattle.std.specs.Text.{digitValue};
 ghost use Rattle.std.specs.Of.Vec.{vec-items};
 ghost use Rattle.std.specs.Vec.{made};
 ghost use Rattle.script.specs.Numbers.{numeral, number, octets};
+use crate::words::is;
 use std::alloc::AllocError;
 use std::alloc::Global;
 
@@ -38,4 +41,39 @@ pub fn number(word: &[u8], limit: u64) -> Option<u64>
     } else {
         numeral(word, 10, limit)
     }
+}
+
+/// What a hexadecimal digit stands for.
+fn hex_digit(octet: u8) -> Option<u8>
+    ensures { λ r. ⌜ Checked r (digitValue octet < 16) (digitValue octet) ⌝ }
+{
+    match (octet as char).to_digit(16) {
+        Some(digit) => Some(digit as u8),
+        None => None,
+    }
+}
+
+/// The octets that a word stands for: `-` for none, else pairs of hexadecimal digits.
+pub fn octets(heap: Global, word: &[u8]) -> Result<Option<Vec<u8>>, AllocError>
+    ensures { λ r. ⌜ made r (λ o. mapped vec-items o ≡ octets (now (word .entry))) ⌝ }
+{
+    let mut read = Vec::new(heap);
+    if is(word, b"-") {
+        return Ok(Some(read));
+    }
+    if word.is_empty() || word.len() % 2 != 0 {
+        return Ok(None);
+    }
+    let mut i = 0;
+    while i < word.len() {
+        let Some(high) = hex_digit(word[i]) else {
+            return Ok(None);
+        };
+        let Some(low) = hex_digit(word[i + 1]) else {
+            return Ok(None);
+        };
+        read.push(high * 16 + low)?;
+        i += 2;
+    }
+    Ok(Some(read))
 }

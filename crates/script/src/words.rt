@@ -4,7 +4,7 @@ ghost use Prim.Native.Nat.{_≤_};
 ghost use lib.ListN.{length, take, drop};
 ghost use Rattle.std.specs.Vec.{made};
 ghost use Rattle.std.specs.shelf.Text.{sameBytes};
-ghost use Rattle.script.specs.Reading.{told, required, only, name as nameOf, flag as flagOf, spelled, nameIn, numberIn, flagIn, keywordIn, endIn, fieldIn, switchIn, threePlaces, placesIn};
+ghost use Rattle.script.specs.Reading.{told, required, name as nameOf, flag as flagOf, nameIn, numberIn, flagIn, keywordIn, endIn, fieldIn, switchIn, threePlaces, placesIn};
 ghost use Rattle.script.specs.Words.{blank, unblanked, uncommented, run, past, word, after};
 use crate::fault::Expected;
 use crate::fault::Fault;
@@ -113,7 +113,7 @@ impl<'a> Words<'a> {
         ensures rest { λ _. ⌜ now (now (self .exit) .rest) ≡ after (now (now (self .entry) .rest)) ⌝ }
     {
         let word = self.next();
-        if is(word, spelling(keyword)) {
+        if is(word, keyword.text().as_bytes()) {
             Ok(())
         } else {
             Err(Fault { found: word, expected: Expected::Keyword(keyword) })
@@ -217,18 +217,5 @@ fn yes_or_no(word: &[u8]) -> Option<bool>
         Some(false)
     } else {
         None
-    }
-}
-
-/// How a keyword is written.
-fn spelling(keyword: Keyword) -> &'static [u8]
-    ensures { λ r. ⌜ now r ≡ spelled keyword ⌝ }
-{
-    match keyword {
-        Keyword::Own => b"own",
-        Keyword::Ne => b"ne",
-        Keyword::Back => b"back",
-        Keyword::Ahead => b"ahead",
-        Keyword::Fallback => b"fallback",
     }
 }

@@ -1,0 +1,73 @@
+// Cutting an input into lines, an octet at a time.
+ghost use mathlib.Core.List.{[]};
+ghost use mathlib.Core.Path.{_≡_};
+ghost use Prim.Native.Nat.{_≤_, _<_, _+_, min};
+ghost use lib.ListN.{length};
+ghost use Rattle.std.specs.Of.Vec.{vec-items, vec-len};
+ghost use Rattle.script.specs.Lines.{trimmed, Put};
+use std::alloc::Global;
+
+/// The most octets of a line, without its line end.
+pub const LIMIT: usize = 8192;
+
+/// Why a line cannot be gathered.
+#[derive(Clone, Copy, Debug, PartialEq)]
+pub enum LineFault {
+    TooLong,
+    NoMemory,
+}
+
+/// The line that is being gathered, with its number, counted from 1.
+#[derive(Drop)]
+pub struct LineCutter {
+    held: Vec<u8>,
+    number: u64,
+}
+
+impl LineCutter {
+    /// The first line, with nothing in it yet.
+    pub fn new(heap: Global) -> LineCutter
+        ensures held { λ r. ⌜ vec-items (r .held) ≡ [] ⌝ }
+        ensures number { λ r. ⌜ r .number ≡ 1 ⌝ }
+    {
+        LineCutter { held: Vec::new(heap), number: 1 }
+    }
+
+    /// The number of the line.
+    pub fn number(&self) -> u64
+        ensures { λ r. ⌜ r ≡ now (self .entry) .number ⌝ }
+    {
+        self.number
+    }
+
+    /// Adds an octet, and says whether the line is complete with it. A line holds one octet
+    /// more than the limit at most, since that may be the CR of its line end.
+    pub fn put(&mut self, octet: u8) -> Result<bool, LineFault>
+        ensures put { λ r. ⌜ Put (vec-items (now (self .entry) .held)) octet (vec-items (now (self .exit) .held)) r ⌝ }
+        ensures number { λ _. ⌜ now (self .exit) .number ≡ now (self .entry) .number ⌝ }
+    {
+        if octet == b'\n' {
+            return if self.line().len() <= LIMIT { Ok(true) } else { Err(LineFault::TooLong) };
+        }
+        if self.held.len() > LIMIT {
+            return Err(LineFault::TooLong);
+        }
+        match self.held.push(octet) {
+            Ok(()) => Ok(false),
+            Err(_) => Err(LineFault::NoMemory),
+        }
+    }
+
+    /// The octets of a complete line; a CR before its LF belongs to the line end.
+    pub fn line(&self) -> &[u8]
+        ensures { λ r. ⌜ now r ≡ trimmed (vec-items (now (self .entry) .held)) ⌝ }
+    {
+        let held = self.held.as_slice();
+        let count = held.len();
+        if count > 0 && held[count - 1] == b'\r' {
+            &held[0..count - 1]
+        } else {
+            held
+        }
+    }
+}
