@@ -1,10 +1,11 @@
 // Cutting an input into lines, an octet at a time.
-ghost use mathlib.Core.List.{[]};
+ghost use mathlib.Core.Bool.{cond};
+ghost use mathlib.Core.List.{List, [], _∷_};
 ghost use mathlib.Core.Path.{_≡_};
-ghost use Prim.Native.Nat.{_≤_, _<_, _+_, min};
-ghost use lib.ListN.{length};
-ghost use Rattle.std.specs.Of.Vec.{vec-items, vec-len};
-ghost use Rattle.script.specs.Lines.{trimmed, Put};
+ghost use Prim.Native.Nat.{ℕ, _+_, min};
+ghost use Rattle.std.specs.Of.Vec.{vec-items};
+ghost use Rattle.std.specs.Vec.{made};
+ghost use Rattle.script.specs.Lines.{trimmed, lines, Put, LastLine};
 use std::alloc::Global;
 
 /// The most octets of a line, without its line end.
@@ -41,9 +42,11 @@ impl LineCutter {
     }
 
     /// Adds an octet, and says whether the line is complete with it. A line holds one octet
-    /// more than the limit at most, since that may be the CR of its line end.
+    /// more than the limit at most, since that may be the CR of its line end. The line that is
+    /// complete and the lines that are still to come are the lines of the whole input.
     pub fn put(&mut self, octet: u8) -> Result<bool, LineFault>
         ensures put { λ r. ⌜ Put (vec-items (now (self .entry) .held)) octet (vec-items (now (self .exit) .held)) r ⌝ }
+        ensures cuts { λ r. ⌜ made r (λ complete. (rest : List ℕ) → lines (vec-items (now (self .entry) .held)) (octet ∷ rest) ≡ cond complete (trimmed (vec-items (now (self .entry) .held)) ∷ lines [] rest) (lines (vec-items (now (self .exit) .held)) rest)) ⌝ }
         ensures number { λ _. ⌜ now (self .exit) .number ≡ now (self .entry) .number ⌝ }
     {
         if octet == b'\n' {
@@ -69,5 +72,28 @@ impl LineCutter {
         } else {
             held
         }
+    }
+
+    /// The octets of the last line, which no LF ends; none, where nothing is left.
+    pub fn last_line(&self) -> Result<Option<&[u8]>, LineFault>
+        ensures { λ r. ⌜ LastLine (vec-items (now (self .entry) .held)) r ⌝ }
+    {
+        let held = self.held.as_slice();
+        if held.is_empty() {
+            Ok(None)
+        } else if held.len() <= LIMIT {
+            Ok(Some(held))
+        } else {
+            Err(LineFault::TooLong)
+        }
+    }
+
+    /// Goes on to the next line.
+    pub fn clear(&mut self)
+        ensures held { λ _. ⌜ vec-items (now (self .exit) .held) ≡ [] ⌝ }
+        ensures number { λ _. ⌜ now (self .exit) .number ≡ min (now (self .entry) .number + 1) 18446744073709551615 ⌝ }
+    {
+        self.held.clear();
+        self.number = self.number.saturating_add(1);
     }
 }
