@@ -1,3 +1,4 @@
+pub mod Desk
 pub mod Lines
 pub mod Numbers
 pub mod Reading

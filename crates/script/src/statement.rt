@@ -3,6 +3,7 @@ ghost use mathlib.Core.Path.{_≡_};
 ghost use Rattle.std.specs.Orderings.{Decides};
 ghost use Rattle.std.specs.Text.{Utf8};
 ghost use Rattle.std.specs.declared.result.Result.the-variants.{Err};
+ghost use Rattle.script.specs.Desk.{subject};
 ghost use Rattle.script.specs.Reading.{Complaint, told};
 ghost use Rattle.script.specs.Statements.{station, listed, profile, begun, statement};
 ghost use Rattle.script.specs.declared.fault.Expected.the-variants.{Text as NoText};
@@ -11,6 +12,7 @@ use crate::fault::Fault;
 use crate::fault::Keyword;
 use crate::words::Words;
 use crate::words::is;
+use std::fmt;
 
 /// One of the two stations of a run.
 #[derive(Clone, Copy, Debug, PartialEq)]
@@ -32,6 +34,28 @@ pub enum Statement {
     Station { name: Name, own: u32, ne_id: u64, back: u64, ahead: u64, fallback: bool, places: Places },
     Listed { name: Name, kind: u8, code: u8 },
     Profile { name: Name, ppi: u16, code: u8, level: u8 },
+}
+
+impl Statement {
+    /// The station that a statement speaks of.
+    pub fn name(self) -> Name
+        ensures { λ r. ⌜ r ≡ subject self ⌝ }
+    {
+        match self {
+            Statement::Station { name, .. } => name,
+            Statement::Listed { name, .. } => name,
+            Statement::Profile { name, .. } => name,
+        }
+    }
+}
+
+pub impl fmt::Display for Name as NameDisplay {
+    fn fmt<W: fmt::Write>(&self, f: &mut fmt::Formatter<W>) -> fmt::Result {
+        match *self {
+            Name::A => write!(f, "A"),
+            Name::B => write!(f, "B"),
+        }
+    }
 }
 
 /// `station NAME own N ne N back N ahead N fallback yes|no [places N N N]`, from its name on.
