@@ -3,13 +3,13 @@ ghost use mathlib.Core.Path.{_≡_};
 ghost use Rattle.std.specs.declared.option.Option.the-variants.{None};
 ghost use Rattle.script.specs.Desk.{planned, subject, Enters, EntersDesk};
 use crate::statement::Name;
+use crate::statement::NameDebug;
+use crate::statement::NameDisplay;
+use crate::statement::NamePartialEq;
 use crate::statement::Places;
 use crate::statement::Statement;
 use std::alloc::Global;
 use std::fmt;
-use crate::statement::NameDebug;
-use crate::statement::NameDisplay;
-use crate::statement::NamePartialEq;
 
 /// A component that has to be protected: its kind and its code.
 #[derive(Clone, Copy, Debug, PartialEq)]
@@ -55,21 +55,47 @@ pub struct Desk {
 }
 
 /// Enters a statement into the declaration of its station.
-fn enter(heap: Global, declared: &mut Option<Declared>, statement: Statement) -> Result<(), DeskFault>
+fn enter(
+    heap: Global,
+    declared: &mut Option<Declared>,
+    statement: Statement,
+) -> Result<(), DeskFault>
     ensures { λ r. ⌜ Enters statement (planned (now (declared .entry))) (planned (now (declared .exit))) r ⌝ }
 {
     match statement {
-        Statement::Station { name, own, ne_id, back, ahead, fallback, places } => {
+        Statement::Station {
+            name,
+            own,
+            ne_id,
+            back,
+            ahead,
+            fallback,
+            places,
+        } => {
             if declared.is_some() {
                 return Err(DeskFault::DeclaredTwice(name));
             }
             let listed = Vec::new(heap);
             let profile = Vec::new(heap);
-            *declared = Some(Declared { own, ne_id, back, ahead, fallback, places, listed, profile });
+            *declared = Some(Declared {
+                own,
+                ne_id,
+                back,
+                ahead,
+                fallback,
+                places,
+                listed,
+                profile,
+            });
             Ok(())
         }
         Statement::Listed { name, kind, code } => list(declared, name, Component { kind, code }),
-        Statement::Profile { name, ppi, code, level } => add_line(declared, name, ProfileLine { ppi, code, level }),
+        Statement::Profile {
+            name,
+            ppi,
+            code,
+            level,
+        } => add_line(declared, name, ProfileLine { ppi, code, level }),
     }
 }
 
@@ -122,9 +148,15 @@ impl Desk {
 pub impl fmt::Display for DeskFault as DeskFaultDisplay {
     fn fmt<W: fmt::Write>(&self, f: &mut fmt::Formatter<W>) -> fmt::Result {
         match *self {
-            DeskFault::DeclaredTwice(name) => write!(f, "found station {name}, which is declared already"),
-            DeskFault::NotDeclared(name) => write!(f, "found station {name}, which is not declared yet"),
-            DeskFault::NoMemory => write!(f, "no memory is left"),
+            DeskFault::DeclaredTwice(name) => write!(
+                f,
+                "found a second declaration of station {name}, expected one"
+            ),
+            DeskFault::NotDeclared(name) => write!(
+                f,
+                "found station {name}, expected a station that is declared above"
+            ),
+            DeskFault::NoMemory => write!(f, "no memory is left for the statement"),
         }
     }
 }

@@ -69,7 +69,11 @@ fn show_word<W: fmt::Write>(word: &[u8], f: &mut fmt::Formatter<W>) -> fmt::Resu
     for octet in word.iter().take(SHOWN) {
         show_octet(*octet, f)?;
     }
-    if word.len() > SHOWN { write!(f, "..") } else { Ok(()) }
+    if word.len() > SHOWN {
+        write!(f, "..")
+    } else {
+        Ok(())
+    }
 }
 
 pub impl fmt::Display for Expected as ExpectedDisplay {

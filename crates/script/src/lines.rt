@@ -7,6 +7,7 @@ ghost use Rattle.std.specs.Of.Vec.{vec-items};
 ghost use Rattle.std.specs.Vec.{made};
 ghost use Rattle.script.specs.Lines.{trimmed, lines, Put, LastLine};
 use std::alloc::Global;
+use std::fmt;
 
 /// The most octets of a line, without its line end.
 pub const LIMIT: usize = 8192;
@@ -31,7 +32,10 @@ impl LineCutter {
         ensures held { λ r. ⌜ vec-items (r .held) ≡ [] ⌝ }
         ensures number { λ r. ⌜ r .number ≡ 1 ⌝ }
     {
-        LineCutter { held: Vec::new(heap), number: 1 }
+        LineCutter {
+            held: Vec::new(heap),
+            number: 1,
+        }
     }
 
     /// The number of the line.
@@ -50,7 +54,11 @@ impl LineCutter {
         ensures number { λ _. ⌜ now (self .exit) .number ≡ now (self .entry) .number ⌝ }
     {
         if octet == b'\n' {
-            return if self.line().len() <= LIMIT { Ok(true) } else { Err(LineFault::TooLong) };
+            return if self.line().len() <= LIMIT {
+                Ok(true)
+            } else {
+                Err(LineFault::TooLong)
+            };
         }
         if self.held.len() > LIMIT {
             return Err(LineFault::TooLong);
@@ -95,5 +103,14 @@ impl LineCutter {
     {
         self.held.clear();
         self.number = self.number.saturating_add(1);
+    }
+}
+
+pub impl fmt::Display for LineFault as LineFaultDisplay {
+    fn fmt<W: fmt::Write>(&self, f: &mut fmt::Formatter<W>) -> fmt::Result {
+        match *self {
+            LineFault::TooLong => write!(f, "found a longer line, expected at most {LIMIT} octets"),
+            LineFault::NoMemory => write!(f, "no memory is left for the line"),
+        }
     }
 }

@@ -31,9 +31,26 @@ pub struct Places {
 
 #[derive(Clone, Copy, Debug, PartialEq)]
 pub enum Statement {
-    Station { name: Name, own: u32, ne_id: u64, back: u64, ahead: u64, fallback: bool, places: Places },
-    Listed { name: Name, kind: u8, code: u8 },
-    Profile { name: Name, ppi: u16, code: u8, level: u8 },
+    Station {
+        name: Name,
+        own: u32,
+        ne_id: u64,
+        back: u64,
+        ahead: u64,
+        fallback: bool,
+        places: Places,
+    },
+    Listed {
+        name: Name,
+        kind: u8,
+        code: u8,
+    },
+    Profile {
+        name: Name,
+        ppi: u16,
+        code: u8,
+        level: u8,
+    },
 }
 
 impl Statement {
@@ -69,7 +86,15 @@ fn station<'a>(words: &mut Words<'a>) -> Result<Statement, Fault<'a>>
     let ahead = words.field(Keyword::Ahead, u64::MAX)?;
     let fallback = words.switch(Keyword::Fallback)?;
     let places = words.places()?;
-    Ok(Statement::Station { name, own: own as u32, ne_id, back, ahead, fallback, places })
+    Ok(Statement::Station {
+        name,
+        own: own as u32,
+        ne_id,
+        back,
+        ahead,
+        fallback,
+        places,
+    })
 }
 
 /// `listed NAME KIND CODE`, from its name on.
@@ -80,7 +105,11 @@ fn listed<'a>(words: &mut Words<'a>) -> Result<Statement, Fault<'a>>
     let kind = words.number(u8::MAX as u64)?;
     let code = words.number(u8::MAX as u64)?;
     words.end()?;
-    Ok(Statement::Listed { name, kind: kind as u8, code: code as u8 })
+    Ok(Statement::Listed {
+        name,
+        kind: kind as u8,
+        code: code as u8,
+    })
 }
 
 /// `profile NAME PPI CODE LEVEL`, from its name on.
@@ -92,7 +121,12 @@ fn profile<'a>(words: &mut Words<'a>) -> Result<Statement, Fault<'a>>
     let code = words.number(u8::MAX as u64)?;
     let level = words.number(u8::MAX as u64)?;
     words.end()?;
-    Ok(Statement::Profile { name, ppi: ppi as u16, code: code as u8, level: level as u8 })
+    Ok(Statement::Profile {
+        name,
+        ppi: ppi as u16,
+        code: code as u8,
+        level: level as u8,
+    })
 }
 
 /// The statement that a first word begins.
@@ -106,7 +140,10 @@ fn begun<'a>(word: &'a [u8], words: &mut Words<'a>) -> Result<Statement, Fault<'
     } else if is(word, b"profile") {
         profile(words)
     } else {
-        Err(Fault { found: word, expected: Expected::Statement })
+        Err(Fault {
+            found: word,
+            expected: Expected::Statement,
+        })
     }
 }
 
@@ -126,7 +163,10 @@ pub fn read_statement(line: &[u8]) -> Result<Option<Statement>, Fault<'_>>
     ensures not_text { λ r. ⌜ ((Utf8 (now (line .entry)) → ⊥) → told r ≡ Err (now (line .entry), NoText)) ⌝ }
 {
     if !is_text(line) {
-        return Err(Fault { found: line, expected: Expected::Text });
+        return Err(Fault {
+            found: line,
+            expected: Expected::Text,
+        });
     }
     let mut words = Words::of(line);
     let word = words.next();

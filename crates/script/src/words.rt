@@ -116,7 +116,10 @@ impl<'a> Words<'a> {
         if is(word, keyword.text().as_bytes()) {
             Ok(())
         } else {
-            Err(Fault { found: word, expected: Expected::Keyword(keyword) })
+            Err(Fault {
+                found: word,
+                expected: Expected::Keyword(keyword),
+            })
         }
     }
 
@@ -128,7 +131,10 @@ impl<'a> Words<'a> {
         if word.is_empty() {
             Ok(())
         } else {
-            Err(Fault { found: word, expected: Expected::End })
+            Err(Fault {
+                found: word,
+                expected: Expected::End,
+            })
         }
     }
 
@@ -157,11 +163,18 @@ impl<'a> Words<'a> {
     {
         let word = self.next();
         if word.is_empty() {
-            Ok(Places { policies: 64, associations: 256, heard: 4096 })
+            Ok(Places {
+                policies: 64,
+                associations: 256,
+                heard: 4096,
+            })
         } else if is(word, b"places") {
             self.written_places()
         } else {
-            Err(Fault { found: word, expected: Expected::PlacesOrEnd })
+            Err(Fault {
+                found: word,
+                expected: Expected::PlacesOrEnd,
+            })
         }
     }
 
@@ -173,7 +186,11 @@ impl<'a> Words<'a> {
         let associations = self.number(65536)?;
         let heard = self.number(65536)?;
         self.end()?;
-        Ok(Places { policies, associations, heard })
+        Ok(Places {
+            policies,
+            associations,
+            heard,
+        })
     }
 }
 
@@ -198,7 +215,11 @@ fn station_name(word: &[u8]) -> Option<Name>
 }
 
 /// What a word stands for, or the fault that it does not.
-fn require<'a, T: Drop>(found: &'a [u8], value: Option<T>, expected: Expected) -> Result<T, Fault<'a>>
+fn require<'a, T: Drop>(
+    found: &'a [u8],
+    value: Option<T>,
+    expected: Expected,
+) -> Result<T, Fault<'a>>
     ensures { λ r. ⌜ told r ≡ required value (now (found .entry)) expected ⌝ }
 {
     match value {

@@ -20,7 +20,7 @@ unfolding number
 returns-else-word-ge2 c =
     let w = c .args .word .now in
     let plain : hexadecimal w ≡ false = elim (c .else-word-ge2 .came) [
-      else-word-ge2·by·then-word-ge2·then-word-eq48·else-word-eq120 v ↦ and-right _ _ (ne-eqb _ _ (v .if-word-eq120 .left))
+      | else-word-ge2·by·then-word-ge2·then-word-eq48·else-word-eq120 v ↦ and-right _ _ (ne-eqb _ _ (v .if-word-eq120 .left))
       | else-word-ge2·by·then-word-ge2·else-word-eq48 v ↦ and-left _ _ (ne-eqb _ _ (v .if-word-eq48 .left))
       | else-word-ge2·by·else-word-ge2 v ↦ and-right _ _ (ne-eqb (getD w 1 0) 120 (λ e. let past = getD-past w 1 0 (omega (arith, v .if-word-ge2 .left)) in omega (arith, past, e)))
     ] in

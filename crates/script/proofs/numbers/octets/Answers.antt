@@ -20,7 +20,7 @@ returns-then-is-empty c =
     let w = c .args .word .now in
     let plain = sym (c .if-is .ensures tt) in
     elim (c .then-is-empty .came) [
-      then-is-empty·by·then-is-empty v ↦ sym (no-word w plain (eqb-true _ 0 (sym (v .if-is-empty .ensures tt))))
+      | then-is-empty·by·then-is-empty v ↦ sym (no-word w plain (eqb-true _ 0 (sym (v .if-is-empty .ensures tt))))
       | then-is-empty·by·else-is-empty·then-word-ne0 v ↦ sym (odd-word w plain (v .if-word-ne0 .taken))
     ]
 

@@ -14,6 +14,6 @@ returns c =
     let line = c .args .line .now in
     let n = c .loop-n .n in
     take-rest line n ∙ sym (elim (c .loop-n-test .came) [
-      then-loop-n-test·else-is-blank w ↦ blanks-end line n (w .loop-n-test .taken) (sym (w .if-is-blank .ensures tt)) (c .loop-n .inv .1)
+      | then-loop-n-test·else-is-blank w ↦ blanks-end line n (w .loop-n-test .taken) (sym (w .if-is-blank .ensures tt)) (c .loop-n .inv .1)
       | else-loop-n-test w ↦ c .loop-n .inv .1 ∙ ap unblanked (drop-all n line (w .loop-n-test .left)) ∙ sym (drop-all n line (w .loop-n-test .left))
     ])
