@@ -12,6 +12,7 @@ use script::statement::read_statement;
 use std::env;
 use std::fmt::Display;
 use std::fs;
+use std::io;
 use std::io::Read;
 
 /// How standard input is called in a message.
@@ -29,9 +30,14 @@ struct Refused {
     place: u64,
 }
 
-/// Says what stops the program.
-fn stop(rt: &LibcRuntime, place: &str, reason: impl Display + Drop) -> Result<(), Stopped> {
-    let _ = eprintln!(rt, "{place}: {reason}");
+/// Says what the program cannot use, and why.
+fn stop(
+    rt: &LibcRuntime,
+    what: &str,
+    trouble: &str,
+    reason: impl Display + Drop,
+) -> Result<(), Stopped> {
+    let _ = eprintln!(rt, "{what}: {trouble}: {reason}");
     Err(Stopped)
 }
 
@@ -109,7 +115,7 @@ fn read_source(
     for _ in 0..u64::MAX {
         let count = match source.read(&mut chunk) {
             Ok(count) => count,
-            Err(error) => return stop(rt, file, error),
+            Err(error) => return stop(rt, file, "cannot be read", error),
         };
         if count == 0 {
             break;
@@ -128,7 +134,7 @@ fn read_named(rt: &LibcRuntime, desk: &mut Desk, file: &str) -> Result<(), Stopp
     }
     match fs::open(rt, file) {
         Ok(mut source) => read_source(rt, desk, file, &mut source),
-        Err(error) => stop(rt, file, error),
+        Err(error) => stop(rt, file, "cannot be opened", error),
     }
 }
 
@@ -136,7 +142,12 @@ fn read_named(rt: &LibcRuntime, desk: &mut Desk, file: &str) -> Result<(), Stopp
 fn read_all(rt: &LibcRuntime, desk: &mut Desk) -> Result<(), Stopped> {
     let args = match env::args(rt) {
         Ok(args) => args,
-        Err(error) => return stop(rt, "gateway", error),
+        Err(error) => return stop(
+            rt,
+            "gateway",
+            "the names of the files cannot be read",
+            error,
+        ),
     };
     let mut named = false;
     for file in args.skip(1) {
@@ -161,27 +172,27 @@ fn answer(rt: &LibcRuntime, name: Name, declared: Option<Declared>) -> Result<()
         return Ok(());
     };
     match settle(declared) {
-        Ok(()) => say(println!(rt, "0 {name} station ok")),
+        Ok(()) => written(rt, println!(rt, "0 {name} station ok")),
         Err(refused) => {
             let Refused {
                 number,
                 layer,
                 place,
             } = refused;
-            say(println!(
-                rt,
+            let line = format_args!(
                 "0 {name} station refused {number} layer {layer} place {place}"
-            ))?;
+            );
+            written(rt, rt.println(line))?;
             Err(Stopped)
         }
     }
 }
 
-/// Stops where nothing can be printed.
-fn say(printed: std::io::Result<()>) -> Result<(), Stopped> {
-    match printed {
+/// Stops where an answer cannot be written.
+fn written(rt: &LibcRuntime, outcome: io::Result<()>) -> Result<(), Stopped> {
+    match outcome {
         Ok(()) => Ok(()),
-        Err(_) => Err(Stopped),
+        Err(error) => stop(rt, "standard output", "cannot be written", error),
     }
 }
 

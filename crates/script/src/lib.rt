@@ -4,4 +4,4 @@ pub mod fault;
 pub mod lines;
 pub mod numbers;
 pub mod statement;
-pub mod words;
+mod words;

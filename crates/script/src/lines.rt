@@ -109,7 +109,10 @@ impl LineCutter {
 pub impl fmt::Display for LineFault as LineFaultDisplay {
     fn fmt<W: fmt::Write>(&self, f: &mut fmt::Formatter<W>) -> fmt::Result {
         match *self {
-            LineFault::TooLong => write!(f, "found a longer line, expected at most {LIMIT} octets"),
+            LineFault::TooLong => write!(
+                f,
+                "found a line of more than {LIMIT} octets, expected at most {LIMIT}"
+            ),
             LineFault::NoMemory => write!(f, "no memory is left for the line"),
         }
     }
