@@ -24,7 +24,7 @@ pub reads-none : (base limit : ℕ) (ds : List ℕ) → Reads base limit ds 0 0
 reads-none base limit ds = record { sound = refl; worth = omega arith; low = omega arith }
 
 -- one digit more is worth what it stands for in its place
-more-worth : (base v c : ℕ) (cs : List ℕ) → v * base ^ suc (length cs) + (digitValue c * base ^ length cs + value base cs) ≡ (v * base + digitValue c) * base ^ length cs + value base cs
+pub more-worth : (base v c : ℕ) (cs : List ℕ) → v * base ^ suc (length cs) + (digitValue c * base ^ length cs + value base cs) ≡ (v * base + digitValue c) * base ^ length cs + value base cs
 more-worth base v c cs =
     let p = base ^ length cs in
     let e = pow-succ' base (length cs) in

@@ -3,23 +3,21 @@ ghost use mathlib.Core.Path.{_≡_};
 ghost use Rattle.std.specs.declared.option.Option.the-variants.{None};
 ghost use Rattle.script.specs.Desk.{planned, subject, Enters, EntersDesk};
 use crate::statement::Name;
-use crate::statement::NameDebug;
 use crate::statement::NameDisplay;
-use crate::statement::NamePartialEq;
 use crate::statement::Places;
 use crate::statement::Statement;
 use std::alloc::Global;
 use std::fmt;
 
 /// A component that has to be protected: its kind and its code.
-#[derive(Clone, Copy, Debug, PartialEq)]
+#[derive(Clone, Copy)]
 pub struct Component {
     pub kind: u8,
     pub code: u8,
 }
 
 /// The protection level of a code under a PPI.
-#[derive(Clone, Copy, Debug, PartialEq)]
+#[derive(Clone, Copy)]
 pub struct ProfileLine {
     pub ppi: u16,
     pub code: u8,
@@ -40,7 +38,7 @@ pub struct Declared {
 }
 
 /// Why a statement cannot be entered.
-#[derive(Clone, Copy, Debug, PartialEq)]
+#[derive(Clone, Copy)]
 pub enum DeskFault {
     DeclaredTwice(Name),
     NotDeclared(Name),

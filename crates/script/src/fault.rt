@@ -4,7 +4,7 @@ ghost use Rattle.script.specs.Reading.{spelled};
 use std::fmt;
 
 /// The words that name a field of a statement.
-#[derive(Clone, Copy, Debug, PartialEq)]
+#[derive(Clone, Copy)]
 pub enum Keyword {
     Own,
     Ne,
@@ -29,7 +29,7 @@ impl Keyword {
 }
 
 /// What a place of a line should hold.
-#[derive(Clone, Copy, Debug, PartialEq)]
+#[derive(Clone, Copy)]
 pub enum Expected {
     /// Octets that are UTF-8.
     Text,
@@ -45,7 +45,7 @@ pub enum Expected {
 }
 
 /// A word that was found, empty at the end of the line, where something else was expected.
-#[derive(Clone, Copy, Drop)]
+#[derive(Drop)]
 pub struct Fault<'a> {
     pub found: &'a [u8],
     pub expected: Expected,
@@ -94,18 +94,24 @@ pub impl fmt::Display for Expected as ExpectedDisplay {
     }
 }
 
+/// Shows what was found: octets that are not text are not shown.
+fn show_found<W: fmt::Write>(fault: &Fault<'_>, f: &mut fmt::Formatter<W>) -> fmt::Result {
+    if let Expected::Text = fault.expected {
+        return write!(f, "octets that are not text");
+    }
+    if fault.found.is_empty() {
+        return write!(f, "the end of the line");
+    }
+    write!(f, "'")?;
+    show_word(fault.found, f)?;
+    write!(f, "'")
+}
+
 pub impl fmt::Display for Fault<'_> as FaultDisplay {
     fn fmt<W: fmt::Write>(&self, f: &mut fmt::Formatter<W>) -> fmt::Result {
         let expected = self.expected;
-        if expected == Expected::Text {
-            write!(f, "found octets that are not text")?;
-        } else if self.found.is_empty() {
-            write!(f, "found the end of the line")?;
-        } else {
-            write!(f, "found '")?;
-            show_word(self.found, f)?;
-            write!(f, "'")?;
-        }
+        write!(f, "found ")?;
+        show_found(self, f)?;
         write!(f, ", expected {expected}")
     }
 }

@@ -13,7 +13,7 @@ use std::fmt;
 pub const LIMIT: usize = 8192;
 
 /// Why a line cannot be gathered.
-#[derive(Clone, Copy, Debug, PartialEq)]
+#[derive(Clone, Copy)]
 pub enum LineFault {
     TooLong,
     NoMemory,

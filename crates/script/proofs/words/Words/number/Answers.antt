@@ -9,7 +9,7 @@ use Rattle.script.proofs.words.Words.number.Needs as need
 pub returns : need.returns
 unfolding numberIn
 returns c =
-    let low = subst (λ o. found o (λ n. n ≤ c .args .limit)) (sym (c .number .ensures)) (number-low (c .args .limit) (c .next-word .result .now)) in
+    let low = subst (λ o. found o (λ n. n ≤ c .args .limit)) (sym (c .number .ensures .value)) (number-low (c .args .limit) (c .next-word .result .now)) in
     record {
       value = search needs;
       bound = made-required (c .require .result) (c .number .result) _ _ (λ n. n ≤ c .args .limit) (c .require .ensures) low;
