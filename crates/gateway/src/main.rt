@@ -1,11 +1,11 @@
 // The gateway: reads statements, a line each, from the files that are named, or from standard
 // input, and answers on standard output.
-use script::desk::Declared;
-use script::desk::Desk;
-use script::desk::DeskFaultDisplay;
+use desk::Declared;
+use desk::Desk;
+use desk::DeskFaultDisplay;
+use lines::LineCutter;
+use lines::LineFaultDisplay;
 use script::fault::FaultDisplay;
-use script::lines::LineCutter;
-use script::lines::LineFaultDisplay;
 use script::statement::Name;
 use script::statement::NameDisplay;
 use script::statement::read_statement;

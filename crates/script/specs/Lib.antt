@@ -1,5 +1,3 @@
-pub mod Desk
-pub mod Lines
 pub mod Numbers
 pub mod Reading
 pub mod Statements

@@ -12,8 +12,15 @@ use Rattle.script.specs.Words.{word, after}
 use Rattle.script.specs.Reading.{Complaint, next, nameIn, numberIn, fieldIn, switchIn, placesIn, endIn, ended}
 use Rattle.script.specs.declared.fault.Expected.the-variants as expected
 use Rattle.script.specs.declared.fault.Keyword.the-variants.{Own, Ne, Back, Ahead, Fallback}
+use Rattle.script.specs.declared.statement.Name.{Name}
 use Rattle.script.specs.declared.statement.Statement.{Statement}
 use Rattle.script.specs.declared.statement.Statement.the-variants.{Station, Listed, Profile}
+
+-- the station that a statement speaks of
+abbrev pub subject : Statement → Name
+subject (Station name own ne back ahead fallback places) = name
+subject (Listed name kind code) = name
+subject (Profile name ppi code level) = name
 
 -- a line without its first n words
 abbrev pub from : ℕ → List ℕ → List ℕ

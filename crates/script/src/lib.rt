@@ -1,7 +1,5 @@
 // The command language of the gateway: lines of words, read into statements.
-pub mod desk;
 pub mod fault;
-pub mod lines;
 pub mod numbers;
 pub mod statement;
 mod words;

@@ -5,7 +5,7 @@ ghost use mathlib.Core.Path.{_≡_};
 ghost use Prim.Native.Nat.{ℕ, _+_, min};
 ghost use Rattle.std.specs.Of.Vec.{vec-items};
 ghost use Rattle.std.specs.Vec.{made};
-ghost use Rattle.script.specs.Lines.{trimmed, lines, Put, LastLine};
+ghost use Rattle.lines.specs.Lines.{trimmed, lines, Put, LastLine};
 use std::alloc::Global;
 use std::fmt;
 

@@ -9,17 +9,17 @@ use Rattle.std.specs.declared.option.Option.{Option}
 use Rattle.std.specs.declared.option.Option.the-variants.{Some, None}
 use Rattle.std.specs.declared.result.Result.{Result}
 use Rattle.std.specs.declared.result.Result.the-variants.{Ok, Err}
-use Rattle.script.specs.declared.desk.Component.{Component}
-use Rattle.script.specs.declared.desk.Declared.{Declared}
-use Rattle.script.specs.declared.desk.Desk.{Desk}
-use Rattle.script.specs.declared.desk.DeskFault.{DeskFault}
-use Rattle.script.specs.declared.desk.DeskFault.the-variants.{DeclaredTwice, NotDeclared, NoMemory}
-use Rattle.script.specs.declared.desk.ProfileLine.{ProfileLine}
+use Rattle.desk.specs.declared.Component.{Component}
+use Rattle.desk.specs.declared.Declared.{Declared}
+use Rattle.desk.specs.declared.Desk.{Desk}
+use Rattle.desk.specs.declared.DeskFault.{DeskFault}
+use Rattle.desk.specs.declared.DeskFault.the-variants.{DeclaredTwice, NotDeclared, NoMemory}
+use Rattle.desk.specs.declared.ProfileLine.{ProfileLine}
 use Rattle.script.specs.declared.statement.Name.{Name}
 use Rattle.script.specs.declared.statement.Name.the-variants as names
 use Rattle.script.specs.declared.statement.Places.{Places}
 use Rattle.script.specs.declared.statement.Statement.{Statement}
 use Rattle.script.specs.declared.statement.Statement.the-variants.{Station, Listed, Profile}
 
 -- what is declared of a station
 pub record Plan : Type 0 where
@@ -48,12 +48,6 @@ plan d =
 -- the plan of a station that is declared
 abbrev pub planned : Option Declared → Option Plan
 planned d = mapped plan d
-
--- the station that a statement speaks of
-abbrev pub subject : Statement → Name
-subject (Station name own ne back ahead fallback places) = name
-subject (Listed name kind code) = name
-subject (Profile name ppi code level) = name
 
 -- the plan with a statement: a station is declared once, and first
 abbrev pub entered : Statement → Option Plan → Result Plan DeskFault

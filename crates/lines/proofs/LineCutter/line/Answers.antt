@@ -4,9 +4,9 @@ use lib.ListN.{length, getD}
 use Prim.Native.Nat.{_-_, _≤_}
 use Rattle.std.proofs.shelf.Lists.{getD-past}
 use Rattle.std.proofs.shelf.Tests.{cond-false, ne-eqb}
-use Rattle.script.specs.Lines.{trimmed}
-use Rattle.script.proofs.lines.LineCutter.line.Needs as need
-use Rattle.script.proofs.lines.LineCutter.line.Needs.{else-count-gt0·by·then-count-gt0·else-held-count-eq13, else-count-gt0·by·else-count-gt0}
+use Rattle.lines.specs.Lines.{trimmed}
+use Rattle.lines.proofs.LineCutter.line.Needs as need
+use Rattle.lines.proofs.LineCutter.line.Needs.{else-count-gt0·by·then-count-gt0·else-held-count-eq13, else-count-gt0·by·else-count-gt0}
 
 pub returns-else-count-gt0 : need.returns-else-count-gt0
 returns-else-count-gt0 c =

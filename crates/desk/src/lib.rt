@@ -1,11 +1,12 @@
 // Keeping what the statements declare of the two stations.
 ghost use mathlib.Core.Path.{_≡_};
 ghost use Rattle.std.specs.declared.option.Option.the-variants.{None};
-ghost use Rattle.script.specs.Desk.{planned, subject, Enters, EntersDesk};
-use crate::statement::Name;
-use crate::statement::NameDisplay;
-use crate::statement::Places;
-use crate::statement::Statement;
+ghost use Rattle.desk.specs.Desk.{planned, Enters, EntersDesk};
+ghost use Rattle.script.specs.Statements.{subject};
+use script::statement::Name;
+use script::statement::NameDisplay;
+use script::statement::Places;
+use script::statement::Statement;
 use std::alloc::Global;
 use std::fmt;
 

@@ -10,8 +10,8 @@ use Rattle.std.specs.declared.option.Option.{Option}
 use Rattle.std.specs.declared.option.Option.the-variants.{Some, None}
 use Rattle.std.specs.declared.result.Result.{Result}
 use Rattle.std.specs.declared.result.Result.the-variants.{Ok, Err}
-use Rattle.script.specs.declared.lines.LineFault.{LineFault}
-use Rattle.script.specs.declared.lines.LineFault.the-variants.{TooLong, NoMemory}
+use Rattle.lines.specs.declared.LineFault.{LineFault}
+use Rattle.lines.specs.declared.LineFault.the-variants.{TooLong, NoMemory}
 
 -- a line without the CR before its LF, which belongs to the line end
 abbrev pub trimmed : List ℕ → List ℕ
