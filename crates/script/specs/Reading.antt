@@ -44,12 +44,15 @@ next (Err e) f = Err e
 abbrev pub only : Bool → Option (Unit {0})
 only b = cond b (Some tt) None
 
+-- the station that a word names
 abbrev pub name : List ℕ → Option Name
 name w = cond (sameBytes w (codes "A")) (Some names.A) (cond (sameBytes w (codes "B")) (Some names.B) None)
 
+-- what yes and no stand for
 abbrev pub flag : List ℕ → Option Bool
 flag w = cond (sameBytes w (codes "yes")) (Some true) (cond (sameBytes w (codes "no")) (Some false) None)
 
+-- how a keyword is written
 abbrev pub spelled : Keyword → List ℕ
 spelled Own = codes "own"
 spelled Ne = codes "ne"
@@ -61,26 +64,31 @@ spelled Fallback = codes "fallback"
 abbrev pub ended : List ℕ → Bool
 ended line = eqb (length (word line)) 0
 
--- the readers of the next word of a line
+-- the next word of a line as the name of a station
 unfoldable pub nameIn : List ℕ → Result Name Complaint
 nameIn line = required (name (word line)) (word line) expected.StationName
 
+-- as a number of at most `limit`
 unfoldable pub numberIn : ℕ → List ℕ → Result ℕ Complaint
 numberIn limit line = required (number limit (word line)) (word line) (expected.Number limit)
 
+-- as yes or no
 unfoldable pub flagIn : List ℕ → Result Bool Complaint
 flagIn line = required (flag (word line)) (word line) expected.YesOrNo
 
+-- as that keyword
 unfoldable pub keywordIn : Keyword → List ℕ → Result (Unit {0}) Complaint
 keywordIn k line = required (only (sameBytes (word line) (spelled k))) (word line) (expected.Keyword k)
 
+-- as none, where the line ends
 unfoldable pub endIn : List ℕ → Result (Unit {0}) Complaint
 endIn line = required (only (ended line)) (word line) expected.End
 
--- a keyword and its number, or its yes or no
+-- a keyword and its number
 unfoldable pub fieldIn : Keyword → ℕ → List ℕ → Result ℕ Complaint
 fieldIn k limit line = next (keywordIn k line) (λ _. numberIn limit (after line))
 
+-- a keyword and its yes or no
 unfoldable pub switchIn : Keyword → List ℕ → Result Bool Complaint
 switchIn k line = next (keywordIn k line) (λ _. flagIn (after line))
 

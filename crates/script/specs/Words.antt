@@ -1,4 +1,5 @@
--- The words of a line. Blanks part them; a '#' where a word could begin opens a comment that ends the line.
+-- The words of a line. Blanks part them; a '#' where a word could begin opens a comment that
+-- ends the line, and inside a word it is an octet like any other.
 use mathlib.Core.Bool.{Bool, cond, _||_}
 use mathlib.Core.List.{List, [], _∷_}
 use Prim.Native.Nat.{ℕ}

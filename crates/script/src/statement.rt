@@ -28,6 +28,7 @@ pub struct Places {
     pub heard: u64,
 }
 
+/// A statement that declares something of a station.
 #[derive(Clone, Copy)]
 pub enum Statement {
     Station {
