@@ -1,0 +1,4 @@
+pub mod Numbers
+pub mod Reading
+pub mod Statements
+pub mod Words

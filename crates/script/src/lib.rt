@@ -1,0 +1,5 @@
+// The command language of the gateway: lines of words, read into statements.
+pub mod fault;
+pub mod numbers;
+pub mod statement;
+mod words;
