@@ -145,6 +145,10 @@ module _ (key : List ℕ) (h : (i : ℕ) → getD key i 0 < 256) where
       last-small _ (word key 40) (word key 41) (word key 42) (word key 43) (word-small 40) (word-small 41)
       (word-small 42) (word-small 43)
 
+pub length-cipher : (keys : List (List Row)) (block : List ℕ) → length (cipher keys block) ≡ 16
+unfolding cipher
+length-cipher keys block = refl
+
 pub length-aes128 : (key block : List ℕ) → length (aes128 key block) ≡ 16
-unfolding aes128 cipher
-length-aes128 key block = refl
+unfolding aes128
+length-aes128 key block = length-cipher (schedule key) block
