@@ -5,12 +5,14 @@
     tools/bench-aes.py [--count N]
 
 Needs python3 (its standard library alone) and the openssl command: apt-get install openssl
-Each call here expands its key anew, which OpenSSL's figures leave out. Prints nanoseconds
-and, by the processor's own rate where /proc/cpuinfo tells it, cycles for each octet.
+Both are timed by the processor time of their own process, so other work on the machine
+matters little. Each call here expands its key anew, which OpenSSL's figures leave out.
+Prints nanoseconds and, by the rate that /proc/cpuinfo tells, cycles for each octet.
 """
 import argparse
 import os
 import re
+import resource
 import subprocess
 import sys
 from pathlib import Path
@@ -20,13 +22,16 @@ PROGRAM = Path(__file__).resolve().parent.parent / "target" / "bin" / "bench"
 NO_AES = "~0x200000200000000"  # OPENSSL_ia32cap without AES instructions and PCLMULQDQ
 
 
+def spent(mode, count):
+    """The processor time of this repository's code for so many calls."""
+    before = resource.getrusage(resource.RUSAGE_CHILDREN).ru_utime
+    subprocess.run([PROGRAM, mode, str(count)], stdout=subprocess.DEVNULL, check=True)
+    return resource.getrusage(resource.RUSAGE_CHILDREN).ru_utime - before
+
+
 def here(mode, count):
     """Nanoseconds an octet of this repository's code, the best of five runs."""
-    times = []
-    for _ in range(5):
-        ran = subprocess.run([PROGRAM, mode, str(count)], text=True, stdout=subprocess.PIPE, check=True)
-        times.append(int(ran.stdout.split()[0]))
-    return min(times) / (count * SIZE)
+    return min(spent(mode, count) for _ in range(5)) * 1e9 / (count * SIZE)
 
 
 def openssl(cipher, capabilities=None):
@@ -34,7 +39,7 @@ def openssl(cipher, capabilities=None):
     settings = dict(os.environ)
     if capabilities:
         settings["OPENSSL_ia32cap"] = capabilities
-    words = ["openssl", "speed", "-elapsed", "-seconds", "2", "-bytes", str(SIZE), "-evp", cipher]
+    words = ["openssl", "speed", "-seconds", "2", "-bytes", str(SIZE), "-evp", cipher]
     ran = subprocess.run(words, text=True, env=settings, stdout=subprocess.PIPE, stderr=subprocess.DEVNULL, check=True)
     rate = re.search(r"([0-9.]+)k\s*$", ran.stdout.strip())
     return 1e9 / (float(rate.group(1)) * 1000)
@@ -47,7 +52,7 @@ def megahertz():
 
 def main():
     words = argparse.ArgumentParser(description="Time AES over 1,024 octets.")
-    words.add_argument("--count", type=int, default=5000)
+    words.add_argument("--count", type=int, default=50000)
     words = words.parse_args()
     if not PROGRAM.exists():
         sys.exit(f"{PROGRAM} is not there: run `rt check bench` first")
