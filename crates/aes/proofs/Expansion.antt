@@ -8,11 +8,10 @@ use lib.Dec.{eqb}
 use lib.ListN.{getD}
 use Rattle.std.proofs.shelf.Tests.{ne-eqb}
 use Rattle.std.specs.Iters.{counting}
-use Rattle.aes.specs.declared.state.Word.{Word}
 use Rattle.aes.specs.Cipher.{words-key, schedule}
 use Rattle.aes.specs.Field.{xtime, times-bits, times, power}
 use Rattle.aes.specs.Keys.{rot-word, sub-word, add-word, rcon, temp, word}
-use Rattle.aes.specs.State.{word-at}
+use Rattle.aes.specs.State.{Word, word-at}
 use Rattle.aes.proofs.Tests.{table-is}
 
 -- the round constants are the powers of x

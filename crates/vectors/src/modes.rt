@@ -70,10 +70,10 @@ pub fn cbc(
 pub fn expanded(heap: Global, key: [u8; 16]) -> Result<Vec<u8>, Refused<u8>> {
     let mut out = Vec::new(heap);
     for word in words(&key) {
-        out.push(word.b0)?;
-        out.push(word.b1)?;
-        out.push(word.b2)?;
-        out.push(word.b3)?;
+        out.push(word.c0)?;
+        out.push(word.c1)?;
+        out.push(word.c2)?;
+        out.push(word.c3)?;
     }
     Ok(out)
 }
