@@ -1,7 +1,7 @@
 -- A block enciphered under a key of octets is sixteen octets.
 -- Assumes nothing.
-use mathlib.Core.Bool.{Bool, true, false, cond}
-use mathlib.Core.List.{List, [], _∷_}
+use mathlib.Core.Bool.{true, false, cond}
+use mathlib.Core.List.{List, []}
 use mathlib.Core.Path.{_≡_, refl}
 use Prim.Native.Nat.{ℕ, zero, suc, _+_, _*_, _-_, _/_, _%_, _<_}
 use native.Mathlib.Omega.{arith}
@@ -9,12 +9,12 @@ use lib.Bits.{bitXor, xor-lt}
 use lib.Dec.{eqb, ltb, ltb→lt}
 use lib.ListN.{length, getD}
 use Rattle.aes.specs.declared.state.Row.{Row}
-use Rattle.aes.specs.Cipher.{round-key, schedule, last-round, rounds, cipher, aes128}
+use Rattle.aes.specs.Cipher.{schedule, last-round, cipher, aes128}
 use Rattle.aes.specs.Field.{xtime, times-bits, times, power}
 use Rattle.aes.specs.Keys.{rot-word, sub-word, add-word, rcon, temp, word}
 use Rattle.aes.specs.Octets.{Octets}
 use Rattle.aes.specs.Sbox.{affine-bit, affine-bits, affine, inverse, sbox}
-use Rattle.aes.specs.State.{Word, row, word-at, columns, add-row, add-round-key, octets-of}
+use Rattle.aes.specs.State.{Word, row, word-at, columns, octets-of}
 use Rattle.aes.proofs.Tests.{below}
 
 affine-bit-small : (b i : ℕ) → affine-bit b i < 2
