@@ -1,15 +1,17 @@
 // Octets as pairs of hex digits, `-` for none.
 ghost use mathlib.Core.Path.{_≡_};
 ghost use Prim.Native.Nat.{_<_};
+ghost use Rattle.std.specs.Of.String.{string-bytes};
 ghost use Rattle.std.specs.Options.{Cases as BySome};
-ghost use Rattle.vectors.specs.Hex.{digit-value};
+ghost use Rattle.std.specs.Vec.{made};
+ghost use Rattle.vectors.specs.Hex.{digit-value, octet-value, digit-code, hex-of};
 use std::alloc::AllocError;
 use std::alloc::Global;
 use std::alloc::Refused;
 
 // The value of a hex digit.
 fn digit(b: u8) -> Option<u8>
-    ensures { λ r. ⌜ r ≡ digit-value b ⌝ }
+    ensures value { λ r. ⌜ r ≡ digit-value b ⌝ }
     ensures small { λ r. ⌜ BySome r (Unit {0}) (λ d. d < 16) ⌝ }
 {
     match b {
@@ -21,7 +23,9 @@ fn digit(b: u8) -> Option<u8>
 }
 
 // The octet of two hex digits.
-fn pair(high: u8, low: u8) -> Option<u8> {
+fn pair(high: u8, low: u8) -> Option<u8>
+    ensures { λ r. ⌜ r ≡ octet-value (digit-value high) (digit-value low) ⌝ }
+{
     let Some(h) = digit(high) else {
         return None;
     };
@@ -53,6 +57,8 @@ pub fn read(heap: Global, word: &str) -> Result<Option<Vec<u8>>, Refused<u8>> {
 // A value below 16 as a hex digit.
 fn shown(value: u8) -> char
     requires { ⌜ value < 16 ⌝ }
+    ensures code { λ r. ⌜ r ≡ digit-code value ⌝ }
+    ensures ascii { λ r. ⌜ r < 128 ⌝ }
 {
     if value < 10 {
         (b'0' + value) as char
@@ -62,10 +68,13 @@ fn shown(value: u8) -> char
 }
 
 // Octets as hex digits.
-pub fn written(heap: Global, octets: &[u8]) -> Result<String, AllocError> {
+pub fn written(heap: Global, octets: &[u8]) -> Result<String, AllocError>
+    ensures { λ r. ⌜ made r (λ text. string-bytes text ≡ hex-of (now (octets .entry))) ⌝ }
+{
     let mut text = String::new(heap);
     if octets.is_empty() {
         text.push('-')?;
+        return Ok(text);
     }
     for octet in octets {
         text.push(shown(*octet / 16))?;
