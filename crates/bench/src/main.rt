@@ -14,7 +14,7 @@ use std::error::AnyError;
 
 const SIZE: usize = 1024;
 
-// What the calls leave: it is printed, so that none can be left out.
+// An octet of what so many calls leave: it is printed, so that none can be left out.
 fn ciphered(count: u32) -> u8 {
     let mut banks = delivered();
     let key = Key { high: 1, low: 2 };
@@ -26,6 +26,7 @@ fn ciphered(count: u32) -> u8 {
     octets[0]
 }
 
+// The tags of so many calls, added up.
 fn tagged(count: u32) -> u32 {
     let mut banks = delivered();
     let key = Key { high: 1, low: 2 };
@@ -38,6 +39,7 @@ fn tagged(count: u32) -> u32 {
     last
 }
 
+// What the calls of a mode leave.
 fn left(mode: &str, count: u32) -> Result<u32, AnyError> {
     match mode {
         "ctr" => Ok(ciphered(count) as u32),

@@ -12,8 +12,8 @@ use Rattle.vectors.specs.Hex.{digit-code, digits-of, hex-of}
 
 -- one octet more: two digits at the end
 pub digits-more : (t u v xs : List ℕ) (i a b : ℕ) → i < length xs → t ≡ digits-of (take i xs)
-  → u ≡ t ++ a ∷ [] → v ≡ u ++ b ∷ [] → a ≡ digit-code (getD xs i 0 / 16) → b ≡ digit-code (getD xs i 0 % 16)
-  → v ≡ digits-of (take (i + 1) xs)
+    → u ≡ t ++ a ∷ [] → v ≡ u ++ b ∷ [] → a ≡ digit-code (getD xs i 0 / 16) → b ≡ digit-code (getD xs i 0 % 16)
+    → v ≡ digits-of (take (i + 1) xs)
 digits-more t u v xs i a b h start first second is-a is-b =
     let two = λ (x : ℕ). digit-code (x / 16) ∷ digit-code (x % 16) ∷ [] in
     second

@@ -6,7 +6,7 @@ use aes::keys::words;
 use std::alloc::Global;
 use std::alloc::Refused;
 
-// The first sixteen octets of a slice, which has them.
+// Octets as a block, where they are sixteen.
 pub fn sixteen(octets: &[u8]) -> Option<[u8; 16]> {
     let [a, b, c, d, e, f, g, h, i, j, k, l, m, n, o, p] = octets else {
         return None;
@@ -31,6 +31,7 @@ pub fn sixteen(octets: &[u8]) -> Option<[u8; 16]> {
     ])
 }
 
+// Two blocks added.
 fn xor(x: [u8; 16], y: [u8; 16]) -> [u8; 16] {
     let mut r = x;
     for i in 0..16 {
@@ -39,6 +40,7 @@ fn xor(x: [u8; 16], y: [u8; 16]) -> [u8; 16] {
     r
 }
 
+// A block put at the end.
 fn extend(octets: &mut Vec<u8>, block: [u8; 16]) -> Result<(), Refused<u8>> {
     for octet in block {
         octets.push(octet)?;

@@ -19,6 +19,7 @@ use banks::tag::TagBank;
 use std::alloc::Global;
 use std::str::SplitWhitespace;
 
+// What a line asks for.
 #[derive(Drop)]
 pub enum Request {
     Ecb {
@@ -84,6 +85,7 @@ pub fn read(heap: Global, line: &str) -> Result<Request, Fault> {
     Ok(request)
 }
 
+// The request of a name, with the words that it takes.
 fn named(heap: Global, name: &str, words: &mut SplitWhitespace<'_>) -> Result<Request, Fault> {
     match name {
         "ecb" => Ok(Request::Ecb {
@@ -113,6 +115,7 @@ fn named(heap: Global, name: &str, words: &mut SplitWhitespace<'_>) -> Result<Re
 }
 
 impl Request {
+    // The octets of the answer, by the calls of the banks and of AES themselves.
     pub fn answer(self, heap: Global) -> Result<Vec<u8>, Fault> {
         match self {
             Request::Ecb { key, block } => Ok(Vec::from_slice(heap, &encrypt_block(key, block))?),

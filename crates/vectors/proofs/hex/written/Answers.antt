@@ -16,8 +16,8 @@ loop-octet-again c =
     (c .shown .result) (c .shown-in-loop-octet .result) (c .loop-octet-test .taken) (c .loop-octet .inv)
     (one .bytes ∙ ap (λ (e : List ℕ). string-bytes (c .loop-octet .text) ++ e) (one .ascii (c .shown .ensures .ascii)))
     (two .bytes
-      ∙ ap (λ (e : List ℕ). string-bytes (c .push-in-loop-octet .last .self) ++ e)
-        (two .ascii (c .shown-in-loop-octet .ensures .ascii)))
+    ∙ ap (λ (e : List ℕ). string-bytes (c .push-in-loop-octet .last .self) ++ e)
+    (two .ascii (c .shown-in-loop-octet .ensures .ascii)))
     (c .shown .ensures .code) (c .shown-in-loop-octet .ensures .code)
 
 pub returns : need.returns
