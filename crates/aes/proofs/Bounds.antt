@@ -1,7 +1,7 @@
 -- A block enciphered under a key of octets is sixteen octets.
 -- Assumes nothing.
-use mathlib.Core.Bool.{Bool, true, false, cond}
-use mathlib.Core.List.{List, [], _∷_}
+use mathlib.Core.Bool.{true, false, cond}
+use mathlib.Core.List.{List, []}
 use mathlib.Core.Path.{_≡_, refl}
 use Prim.Native.Nat.{ℕ, zero, suc, _+_, _*_, _-_, _/_, _%_, _<_}
 use native.Mathlib.Omega.{arith}
@@ -9,13 +9,12 @@ use lib.Bits.{bitXor, xor-lt}
 use lib.Dec.{eqb, ltb, ltb→lt}
 use lib.ListN.{length, getD}
 use Rattle.aes.specs.declared.state.Row.{Row}
-use Rattle.aes.specs.declared.state.Word.{Word}
-use Rattle.aes.specs.Cipher.{round-key, schedule, last-round, rounds, cipher, aes128}
+use Rattle.aes.specs.Cipher.{schedule, last-round, cipher, aes128}
 use Rattle.aes.specs.Field.{xtime, times-bits, times, power}
 use Rattle.aes.specs.Keys.{rot-word, sub-word, add-word, rcon, temp, word}
 use Rattle.aes.specs.Octets.{Octets}
 use Rattle.aes.specs.Sbox.{affine-bit, affine-bits, affine, inverse, sbox}
-use Rattle.aes.specs.State.{row, word-at, columns, add-row, add-round-key, octets-of}
+use Rattle.aes.specs.State.{Word, row, word-at, columns, octets-of}
 use Rattle.aes.proofs.Tests.{below}
 
 affine-bit-small : (b i : ℕ) → affine-bit b i < 2
@@ -39,23 +38,23 @@ power-small (suc n) = double-small (power 2 n) (power-small n)
 
 -- each octet of a word
 record Small (w : Word) : Type 0 where
-  s0 : w .b0 < 256
-  s1 : w .b1 < 256
-  s2 : w .b2 < 256
-  s3 : w .b3 < 256
+  s0 : w .c0 < 256
+  s1 : w .c1 < 256
+  s2 : w .c2 < 256
+  s3 : w .c3 < 256
 
 add-small : (v w : Word) → Small v → Small w → Small (add-word v w)
 add-small v w p q =
     record {
-      s0 = xor-lt 8 (v .b0) (w .b0) (p .s0) (q .s0);
-      s1 = xor-lt 8 (v .b1) (w .b1) (p .s1) (q .s1);
-      s2 = xor-lt 8 (v .b2) (w .b2) (p .s2) (q .s2);
-      s3 = xor-lt 8 (v .b3) (w .b3) (p .s3) (q .s3);
+      s0 = xor-lt 8 (v .c0) (w .c0) (p .s0) (q .s0);
+      s1 = xor-lt 8 (v .c1) (w .c1) (p .s1) (q .s1);
+      s2 = xor-lt 8 (v .c2) (w .c2) (p .s2) (q .s2);
+      s3 = xor-lt 8 (v .c3) (w .c3) (p .s3) (q .s3);
     }
 
 sub-small : (w : Word) → Small (sub-word w)
 sub-small w =
-    record { s0 = sbox-small (w .b0); s1 = sbox-small (w .b1); s2 = sbox-small (w .b2); s3 = sbox-small (w .b3) }
+    record { s0 = sbox-small (w .c0); s1 = sbox-small (w .c1); s2 = sbox-small (w .c2); s3 = sbox-small (w .c3) }
 
 rcon-small : (j : ℕ) → Small (rcon j)
 rcon-small j = record { s0 = power-small (j - 1); s1 = omega arith; s2 = omega arith; s3 = omega arith }
@@ -76,37 +75,37 @@ last-small : (s : List Row) (p q r t : Word) → Small p → Small q → Small r
     → Octets (octets-of (last-round (columns p q r t) s))
 unfolding last-round
 last-small s p q r t p′ q′ r′ t′ = (
-  one (row s 0 .c0) (p .b0) (p′ .s0),
+  one (row s 0 .c0) (p .c0) (p′ .s0),
   (
-    one (row s 1 .c1) (p .b1) (p′ .s1),
+    one (row s 1 .c1) (p .c1) (p′ .s1),
     (
-      one (row s 2 .c2) (p .b2) (p′ .s2),
+      one (row s 2 .c2) (p .c2) (p′ .s2),
       (
-        one (row s 3 .c3) (p .b3) (p′ .s3),
+        one (row s 3 .c3) (p .c3) (p′ .s3),
         (
-          one (row s 0 .c1) (q .b0) (q′ .s0),
+          one (row s 0 .c1) (q .c0) (q′ .s0),
           (
-            one (row s 1 .c2) (q .b1) (q′ .s1),
+            one (row s 1 .c2) (q .c1) (q′ .s1),
             (
-              one (row s 2 .c3) (q .b2) (q′ .s2),
+              one (row s 2 .c3) (q .c2) (q′ .s2),
               (
-                one (row s 3 .c0) (q .b3) (q′ .s3),
+                one (row s 3 .c0) (q .c3) (q′ .s3),
                 (
-                  one (row s 0 .c2) (r .b0) (r′ .s0),
+                  one (row s 0 .c2) (r .c0) (r′ .s0),
                   (
-                    one (row s 1 .c3) (r .b1) (r′ .s1),
+                    one (row s 1 .c3) (r .c1) (r′ .s1),
                     (
-                      one (row s 2 .c0) (r .b2) (r′ .s2),
+                      one (row s 2 .c0) (r .c2) (r′ .s2),
                       (
-                        one (row s 3 .c1) (r .b3) (r′ .s3),
+                        one (row s 3 .c1) (r .c3) (r′ .s3),
                         (
-                          one (row s 0 .c3) (t .b0) (t′ .s0),
+                          one (row s 0 .c3) (t .c0) (t′ .s0),
                           (
-                            one (row s 1 .c0) (t .b1) (t′ .s1),
+                            one (row s 1 .c0) (t .c1) (t′ .s1),
                             (
-                              one (row s 2 .c1) (t .b2) (t′ .s2),
+                              one (row s 2 .c1) (t .c2) (t′ .s2),
                               (
-                                one (row s 3 .c2) (t .b3) (t′ .s3),
+                                one (row s 3 .c2) (t .c3) (t′ .s3),
                                 tt,
                               ),
                             ),
@@ -145,6 +144,10 @@ module _ (key : List ℕ) (h : (i : ℕ) → getD key i 0 < 256) where
       last-small _ (word key 40) (word key 41) (word key 42) (word key 43) (word-small 40) (word-small 41)
       (word-small 42) (word-small 43)
 
+pub length-cipher : (keys : List (List Row)) (block : List ℕ) → length (cipher keys block) ≡ 16
+unfolding cipher
+length-cipher keys block = refl
+
 pub length-aes128 : (key block : List ℕ) → length (aes128 key block) ≡ 16
-unfolding aes128 cipher
-length-aes128 key block = refl
+unfolding aes128
+length-aes128 key block = length-cipher (schedule key) block

@@ -1,17 +1,16 @@
 -- The examples of FIPS 197, computed. Four words in a row stand for the key expansion, so that none is computed twice.
 -- Assumes nothing.
 use mathlib.Core.List.{List, [], _∷_}
-use mathlib.Core.Path.{_≡_, refl, sym, ap, _∙_}
-use Prim.Native.Nat.{ℕ, zero, suc, _+_, _*_}
+use mathlib.Core.Path.{_≡_, refl, sym, ap}
+use Prim.Native.Nat.{ℕ, zero, suc}
 use Rattle.aes.specs.declared.state.Row.{Row}
-use Rattle.aes.specs.declared.state.Word.{Word}
-use Rattle.aes.specs.Cipher.{round-key, schedule, round, last-round, rounds, cipher, aes128}
+use Rattle.aes.specs.Cipher.{schedule, round, last-round, rounds, cipher, aes128}
 use Rattle.aes.specs.Examples.{Examples, key}
 use Rattle.aes.specs.Field.{xtime, times-bits, times, power}
 use Rattle.aes.specs.Keys.{add-word, temp, word}
 use Rattle.aes.specs.Octets.{octets}
 use Rattle.aes.specs.Sbox.{bit, affine-bit, affine-bits, affine, inverse, sbox}
-use Rattle.aes.specs.State.{mixed, word-at, columns}
+use Rattle.aes.specs.State.{Word, mixed, word-at, columns}
 
 record Four : Type 0 where
   w0 : Word

@@ -1,18 +1,16 @@
 -- The words of the key expansion, as the code makes them.
 -- Assumes nothing.
 use mathlib.Core.List.{List, [], _∷_, map}
-use mathlib.Core.Path.{_≡_, refl, sym, ap, _∙_}
-use Prim.Native.Nat.{ℕ, zero, suc, _+_, _-_, _/_, _%_, _<_, _≤_}
+use mathlib.Core.Path.{_≡_, refl}
+use Prim.Native.Nat.{ℕ, zero, suc, _-_, _/_, _%_, _<_, _≤_}
 use native.Mathlib.Omega.{arith}
-use lib.Dec.{eqb}
 use lib.ListN.{getD}
 use Rattle.std.proofs.shelf.Tests.{ne-eqb}
 use Rattle.std.specs.Iters.{counting}
-use Rattle.aes.specs.declared.state.Word.{Word}
 use Rattle.aes.specs.Cipher.{words-key, schedule}
 use Rattle.aes.specs.Field.{xtime, times-bits, times, power}
 use Rattle.aes.specs.Keys.{rot-word, sub-word, add-word, rcon, temp, word}
-use Rattle.aes.specs.State.{word-at}
+use Rattle.aes.specs.State.{Word, word-at}
 use Rattle.aes.proofs.Tests.{table-is}
 
 -- the round constants are the powers of x

@@ -1,7 +1,6 @@
 -- Twice and three times an octet in the field.
 -- Assumes nothing.
 use mathlib.Core.Path.{_≡_}
-use mathlib.Core.Bool.{Bool}
 use Prim.Native.Nat.{ℕ, _<_, _*_, _/_, _%_}
 use lib.Bits.{bitXor}
 use lib.Dec.{eqb, eqb→eq}

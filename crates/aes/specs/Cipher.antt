@@ -4,9 +4,10 @@ use mathlib.Core.List.{List, [], _∷_}
 use Prim.Native.Nat.{ℕ, zero, suc, _+_, _*_}
 use lib.ListN.{getD}
 use Rattle.aes.specs.declared.state.Row.{Row}
-use Rattle.aes.specs.declared.state.Word.{Word}
-use Rattle.aes.specs.Keys.{word, blank-word}
+use Rattle.aes.specs.Keys.{word}
 use Rattle.aes.specs.State.{
+  Word,
+  blank-row,
   sub-bytes,
   shift-rows,
   mix-columns,
@@ -19,8 +20,8 @@ use Rattle.aes.specs.State.{
 -- the key of round n among the words w: w[4 n] to w[4 n + 3] as columns
 unfoldable pub words-key : List Word → ℕ → List Row
 words-key w n =
-    columns (getD w (4 * n) blank-word) (getD w (4 * n + 1) blank-word) (getD w (4 * n + 2) blank-word)
-    (getD w (4 * n + 3) blank-word)
+    columns (getD w (4 * n) blank-row) (getD w (4 * n + 1) blank-row) (getD w (4 * n + 2) blank-row)
+    (getD w (4 * n + 3) blank-row)
 
 -- the key of round n
 abbrev pub round-key : List ℕ → ℕ → List Row

@@ -3,11 +3,10 @@
 use mathlib.Core.List.{List}
 use mathlib.Core.Path.{_≡_}
 use Prim.Native.Nat.{ℕ}
-use Rattle.aes.specs.declared.state.Word.{Word}
 use Rattle.aes.specs.Cipher.{aes128}
 use Rattle.aes.specs.Keys.{word}
 use Rattle.aes.specs.Octets.{octets}
-use Rattle.aes.specs.State.{word-at}
+use Rattle.aes.specs.State.{Word, word-at}
 
 abbrev block : ℕ → List ℕ
 block n = octets 16 n

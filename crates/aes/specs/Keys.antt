@@ -3,37 +3,25 @@
 use mathlib.Core.Bool.{cond}
 use mathlib.Core.List.{List}
 use Prim.Native.Nat.{ℕ, zero, suc, _-_, _/_, _%_}
-use lib.Bits.{bitXor}
 use lib.Dec.{eqb}
-use Rattle.aes.specs.declared.state.Word.{Word}
 use Rattle.aes.specs.Field.{power}
-use Rattle.aes.specs.Sbox.{sbox}
-use Rattle.aes.specs.State.{word-at}
-
-abbrev pub blank-word : Word
-blank-word = record { b0 = 0; b1 = 0; b2 = 0; b3 = 0 }
+use Rattle.aes.specs.State.{Word, turn-row, sub-row, add-row, word-at}
 
 -- RotWord: the octets one place to the left, round the word
 abbrev pub rot-word : Word → Word
-rot-word w = record { b0 = w .b1; b1 = w .b2; b2 = w .b3; b3 = w .b0 }
+rot-word = turn-row
 
 -- SubWord: each octet through the S-box
 abbrev pub sub-word : Word → Word
-sub-word w = record { b0 = sbox (w .b0); b1 = sbox (w .b1); b2 = sbox (w .b2); b3 = sbox (w .b3) }
+sub-word = sub-row
 
 -- the sum of two words
 abbrev pub add-word : Word → Word → Word
-add-word v w =
-    record {
-      b0 = bitXor (v .b0) (w .b0);
-      b1 = bitXor (v .b1) (w .b1);
-      b2 = bitXor (v .b2) (w .b2);
-      b3 = bitXor (v .b3) (w .b3);
-    }
+add-word = add-row
 
 -- Rcon[j]: x to the power j - 1, then zeros
 abbrev pub rcon : ℕ → Word
-rcon j = record { b0 = power 2 (j - 1); b1 = 0; b2 = 0; b3 = 0 }
+rcon j = record { c0 = power 2 (j - 1); c1 = 0; c2 = 0; c3 = 0 }
 
 -- what is added to w[i - 4] to make w[i]: w[i - 1], at each fourth word rotated, substituted and with the round constant
 unfoldable pub temp : ℕ → Word → Word

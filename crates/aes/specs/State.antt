@@ -5,9 +5,12 @@ use Prim.Native.Nat.{ℕ, _+_, _*_}
 use lib.Bits.{bitXor}
 use lib.ListN.{getD}
 use Rattle.aes.specs.declared.state.Row.{Row}
-use Rattle.aes.specs.declared.state.Word.{Word}
 use Rattle.aes.specs.Field.{times}
 use Rattle.aes.specs.Sbox.{sbox}
+
+-- a word is four octets too, those of a column
+abbrev pub Word : Type 0
+Word = Row
 
 abbrev pub blank-row : Row
 blank-row = record { c0 = 0; c1 = 0; c2 = 0; c3 = 0 }
@@ -79,19 +82,19 @@ add-round-key s k =
 abbrev pub word-at : List ℕ → ℕ → Word
 word-at xs i =
     record {
-      b0 = getD xs (4 * i) 0;
-      b1 = getD xs (4 * i + 1) 0;
-      b2 = getD xs (4 * i + 2) 0;
-      b3 = getD xs (4 * i + 3) 0;
+      c0 = getD xs (4 * i) 0;
+      c1 = getD xs (4 * i + 1) 0;
+      c2 = getD xs (4 * i + 2) 0;
+      c3 = getD xs (4 * i + 3) 0;
     }
 
 -- the state whose columns are four words
 abbrev pub columns : Word → Word → Word → Word → List Row
 columns p q r s =
-    record { c0 = p .b0; c1 = q .b0; c2 = r .b0; c3 = s .b0 }
-    ∷ record { c0 = p .b1; c1 = q .b1; c2 = r .b1; c3 = s .b1 }
-    ∷ record { c0 = p .b2; c1 = q .b2; c2 = r .b2; c3 = s .b2 }
-    ∷ record { c0 = p .b3; c1 = q .b3; c2 = r .b3; c3 = s .b3 }
+    record { c0 = p .c0; c1 = q .c0; c2 = r .c0; c3 = s .c0 }
+    ∷ record { c0 = p .c1; c1 = q .c1; c2 = r .c1; c3 = s .c1 }
+    ∷ record { c0 = p .c2; c1 = q .c2; c2 = r .c2; c3 = s .c2 }
+    ∷ record { c0 = p .c3; c1 = q .c3; c2 = r .c3; c3 = s .c3 }
     ∷ []
 
 -- the state of sixteen octets: octet r + 4 c in row r and column c

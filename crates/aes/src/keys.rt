@@ -4,51 +4,13 @@ ghost use mathlib.Core.Path.{_≡_};
 ghost use Prim.Native.Nat.{ℕ, _<_, _≤_};
 ghost use lib.ListN.{getD};
 ghost use Rattle.std.specs.Iters.{counting};
-ghost use Rattle.aes.specs.Keys.{rot-word, sub-word, add-word, rcon, temp, word, blank-word};
-use crate::sbox::sub_byte;
+ghost use Rattle.aes.specs.Keys.{rcon, temp, word};
+ghost use Rattle.aes.specs.State.{blank-row};
 use crate::state::Word;
 use crate::state::word_at;
 
 // The first octets of Rcon[1] to Rcon[10]: the powers of x from 0 to 9.
 const RCON: [u8; 10] = [0x01, 0x02, 0x04, 0x08, 0x10, 0x20, 0x40, 0x80, 0x1b, 0x36];
-
-impl Word {
-    // RotWord: one place to the left, round the word.
-    fn rotated(self) -> Word
-        ensures { λ r. ⌜ r ≡ rot-word self ⌝ }
-    {
-        Word {
-            b0: self.b1,
-            b1: self.b2,
-            b2: self.b3,
-            b3: self.b0,
-        }
-    }
-
-    // SubWord: each octet through the S-box.
-    fn substituted(self) -> Word
-        ensures { λ r. ⌜ r ≡ sub-word self ⌝ }
-    {
-        Word {
-            b0: sub_byte(self.b0),
-            b1: sub_byte(self.b1),
-            b2: sub_byte(self.b2),
-            b3: sub_byte(self.b3),
-        }
-    }
-
-    // The sum, octet by octet.
-    fn plus(self, other: Word) -> Word
-        ensures { λ r. ⌜ r ≡ add-word self other ⌝ }
-    {
-        Word {
-            b0: self.b0 ^ other.b0,
-            b1: self.b1 ^ other.b1,
-            b2: self.b2 ^ other.b2,
-            b3: self.b3 ^ other.b3,
-        }
-    }
-}
 
 // Rcon[j].
 fn rcon(j: usize) -> Word
@@ -56,10 +18,10 @@ fn rcon(j: usize) -> Word
     ensures { λ r. ⌜ r ≡ rcon j ⌝ }
 {
     Word {
-        b0: RCON[j - 1],
-        b1: 0,
-        b2: 0,
-        b3: 0,
+        c0: RCON[j - 1],
+        c1: 0,
+        c2: 0,
+        c3: 0,
     }
 }
 
@@ -69,7 +31,7 @@ fn temp(i: usize, previous: Word) -> Word
     ensures { λ r. ⌜ r ≡ temp i previous ⌝ }
 {
     if i % 4 == 0 {
-        previous.rotated().substituted().plus(rcon(i / 4))
+        previous.turned().substituted().plus(rcon(i / 4))
     } else {
         previous
     }
@@ -77,7 +39,7 @@ fn temp(i: usize, previous: Word) -> Word
 
 // w[i], from the words before it.
 fn word(key: &[u8; 16], before: &[Word; 44], i: usize) -> Word
-    requires { ⌜ i < 44 ⌝ ∗ ⌜ ((k : ℕ) → k < i → getD (now before) k blank-word ≡ word (now key) k) ⌝ }
+    requires { ⌜ i < 44 ⌝ ∗ ⌜ ((k : ℕ) → k < i → getD (now before) k blank-row ≡ word (now key) k) ⌝ }
     ensures { λ r. ⌜ r ≡ word (now (key .entry)) i ⌝ }
 {
     if i < 4 {
@@ -91,10 +53,10 @@ pub fn words(key: &[u8; 16]) -> [Word; 44]
     ensures { λ r. ⌜ r ≡ map (word (now (key .entry))) (counting 0 44) ⌝ }
 {
     let mut w = [Word {
-        b0: 0,
-        b1: 0,
-        b2: 0,
-        b3: 0,
+        c0: 0,
+        c1: 0,
+        c2: 0,
+        c3: 0,
     }; 44];
     for i in 0..44 {
         w[i] = word(key, &w, i);

@@ -6,7 +6,7 @@ use crate::field::double;
 use crate::field::triple;
 use crate::sbox::sub_byte;
 
-// A row of the state: an octet in each of four columns.
+// Four octets: a row of the state, its columns from 0 to 3, or a word, its octets from 0 to 3.
 #[derive(Clone, Copy)]
 pub struct Row {
     pub c0: u8,
@@ -15,20 +15,13 @@ pub struct Row {
     pub c3: u8,
 }
 
+pub type Word = Row;
+
 pub type State = [Row; 4];
 
-// A word: four octets, a column of the state or a step of the key expansion.
-#[derive(Clone, Copy)]
-pub struct Word {
-    pub b0: u8,
-    pub b1: u8,
-    pub b2: u8,
-    pub b3: u8,
-}
-
 impl Row {
-    // Each octet through the S-box.
-    fn substituted(self) -> Row
+    // SubBytes of a row, and SubWord: each octet through the S-box.
+    pub(crate) fn substituted(self) -> Row
         ensures { λ r. ⌜ r ≡ sub-row self ⌝ }
     {
         Row {
@@ -39,8 +32,8 @@ impl Row {
         }
     }
 
-    // One place to the left, round the row.
-    fn turned(self) -> Row
+    // One step of ShiftRows, and RotWord: one place to the left, round the row.
+    pub(crate) fn turned(self) -> Row
         ensures { λ r. ⌜ r ≡ turn-row self ⌝ }
     {
         Row {
@@ -52,7 +45,7 @@ impl Row {
     }
 
     // The sum, octet by octet.
-    fn plus(self, other: Row) -> Row
+    pub(crate) fn plus(self, other: Row) -> Row
         ensures { λ r. ⌜ r ≡ add-row self other ⌝ }
     {
         Row {
@@ -136,10 +129,10 @@ pub(crate) fn word_at(octets: &[u8; 16], i: usize) -> Word
     ensures { λ r. ⌜ r ≡ word-at (now (octets .entry)) i ⌝ }
 {
     Word {
-        b0: octets[4 * i],
-        b1: octets[4 * i + 1],
-        b2: octets[4 * i + 2],
-        b3: octets[4 * i + 3],
+        c0: octets[4 * i],
+        c1: octets[4 * i + 1],
+        c2: octets[4 * i + 2],
+        c3: octets[4 * i + 3],
     }
 }
 
@@ -149,28 +142,28 @@ pub(crate) fn columns(p: Word, q: Word, r: Word, s: Word) -> State
 {
     [
         Row {
-            c0: p.b0,
-            c1: q.b0,
-            c2: r.b0,
-            c3: s.b0,
+            c0: p.c0,
+            c1: q.c0,
+            c2: r.c0,
+            c3: s.c0,
         },
         Row {
-            c0: p.b1,
-            c1: q.b1,
-            c2: r.b1,
-            c3: s.b1,
+            c0: p.c1,
+            c1: q.c1,
+            c2: r.c1,
+            c3: s.c1,
         },
         Row {
-            c0: p.b2,
-            c1: q.b2,
-            c2: r.b2,
-            c3: s.b2,
+            c0: p.c2,
+            c1: q.c2,
+            c2: r.c2,
+            c3: s.c2,
         },
         Row {
-            c0: p.b3,
-            c1: q.b3,
-            c2: r.b3,
-            c3: s.b3,
+            c0: p.c3,
+            c1: q.c3,
+            c2: r.c3,
+            c3: s.c3,
         },
     ]
 }

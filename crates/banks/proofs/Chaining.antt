@@ -1,14 +1,12 @@
 -- The chain of MIA-1 taken octet by octet is the chain over the blocks of the padded octets.
 -- Assumes nothing.
-use mathlib.Core.Bool.{cond}
-use mathlib.Core.List.{List, [], _∷_, _++_, map}
+use mathlib.Core.List.{List, [], _∷_, _++_}
 use mathlib.Core.Path.{_≡_, refl, sym, ap, ap₂, _∙_}
 use Prim.Native.Nat.{ℕ, zero, suc, _+_, _-_, _*_, _/_, _%_, _^_, _<_, _≤_}
 use native.Mathlib.Nat.{add-zero, zero-add}
 use native.Mathlib.Numerals.{add-one}
 use native.Mathlib.Omega.{arith}
 use lib.Bits.{bitXor, xor-zero-r}
-use lib.Dec.{eqb}
 use lib.ListN.{length, getD, set, take, drop, replicate}
 use Rattle.std.proofs.shelf.Counted.{fill-by-all}
 use Rattle.std.proofs.shelf.Elements.{all-take, all-from-getD}
@@ -28,7 +26,7 @@ use Rattle.std.proofs.shelf.Lists.{
   drop-more,
 }
 use Rattle.std.proofs.shelf.Tests.{ne-eqb}
-use Rattle.std.specs.Iters.{counting, folded}
+use Rattle.std.specs.Iters.{folded}
 use Rattle.aes.proofs.Bounds.{length-aes128}
 use Rattle.aes.specs.Cipher.{schedule, cipher, aes128}
 use Rattle.aes.specs.declared.state.Row.{Row}

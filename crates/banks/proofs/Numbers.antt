@@ -1,13 +1,13 @@
 -- A number and its octets, over the width: each undoes the other.
 -- Assumes nothing.
-use mathlib.Core.List.{List, [], _∷_, _++_}
+use mathlib.Core.List.{List, [], _∷_}
 use mathlib.Core.Path.{_≡_, refl, sym, ap, ap₂, _∙_}
 use Prim.Native.Nat.{ℕ, zero, suc, _+_, _*_, _/_, _%_, _^_, _<_, _≤_}
-use native.Mathlib.Nat.{mul-assoc, div-one, mod-one, pow-succ', mul-add-div-right, mul-add-mod-self-right}
+use native.Mathlib.Nat.{mul-assoc, mod-one, pow-succ', mul-add-div-right, mul-add-mod-self-right}
 use native.Mathlib.Omega.{arith}
 use lib.Arith.{digits-lt, digits-div, mod-mul}
 use lib.ListN.{length, getD, take, drop}
-use Rattle.std.proofs.shelf.Lists.{length-take-le, length-drop, drop-more, take-all}
+use Rattle.std.proofs.shelf.Lists.{length-take-le, length-drop, drop-more}
 use Rattle.aes.specs.Octets.{Octets, octets, number}
 
 pow-pos : (w : ℕ) → 0 < 256 ^ w

@@ -1,6 +1,6 @@
 -- What the delivered banks mean, number by number.
 -- Assumes nothing.
-use Prim.Native.Nat.{ℕ, zero, suc}
+use Prim.Native.Nat.{zero, suc}
 use Rattle.std.specs.declared.option.Option.the-variants.{Some, None}
 use Rattle.banks.specs.contracts.cipher.Mea1.{the-row as mea1-row}
 use Rattle.banks.specs.contracts.cipher.Mea1Bank.the-impl.{ghosts as mea1-ghosts, dict as mea1-dict}

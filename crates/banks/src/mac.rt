@@ -18,39 +18,24 @@ struct Chain {
     filled: usize,
 }
 
-// One octet more.
-fn absorb_octet(keys: &RoundKeys, chain: Chain, octet: u8) -> Chain
-    requires { ⌜ chain .filled < 16 ⌝ }
-    ensures value { λ r. ⌜ r ≡ absorbed (cipher (now (keys .entry) .rounds)) chain octet ⌝ }
-    ensures room { λ r. ⌜ r .filled < 16 ⌝ }
-{
-    let mut value = chain.value;
-    value[chain.filled] ^= octet;
-    if chain.filled == 15 {
-        Chain {
-            value: encrypt(keys, value),
-            filled: 0,
-        }
-    } else {
-        Chain {
-            value,
-            filled: chain.filled + 1,
-        }
-    }
-}
-
-// All octets of a part, one after the other.
+// All octets of a part, one after the other: a block that is full is enciphered.
 fn absorb(keys: &RoundKeys, start: Chain, octets: &[u8]) -> Chain
     requires { ⌜ start .filled < 16 ⌝ }
     ensures value { λ r. ⌜ r ≡ folded (absorbed (cipher (now (keys .entry) .rounds))) start (now (octets .entry)) ⌝ }
     ensures room { λ r. ⌜ r .filled < 16 ⌝ }
 {
-    let mut chain = start;
+    let mut value = start.value;
+    let mut filled = start.filled;
     for octet in octets {
-        let next = absorb_octet(keys, chain, *octet);
-        chain = next;
+        value[filled] ^= *octet;
+        if filled == 15 {
+            value = encrypt(keys, value);
+            filled = 0;
+        } else {
+            filled += 1;
+        }
     }
-    chain
+    Chain { value, filled }
 }
 
 // The tag of two parts joined.

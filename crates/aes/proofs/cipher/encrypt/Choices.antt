@@ -1,6 +1,5 @@
 use mathlib.Core.Path.{_≡_}
 use Prim.Native.Nat.{_-_}
-use lib.ListN.{length}
 use Rattle.aes.specs.Cipher.{rounds}
 use Rattle.aes.proofs.cipher.encrypt.Given as given
 

@@ -1,5 +1,5 @@
 use mathlib.Core.Path.{_∙_}
-use Prim.Native.Nat.{_-_, _<_}
+use Prim.Native.Nat.{_-_}
 use native.Mathlib.Omega.{arith}
 use Rattle.aes.proofs.Expansion.{word-first, word-next}
 use Rattle.aes.proofs.keys.word.Needs as need

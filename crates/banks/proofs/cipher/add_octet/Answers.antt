@@ -1,5 +1,5 @@
 use mathlib.Core.List.{map}
-use mathlib.Core.Path.{_≡_, _∙_}
+use mathlib.Core.Path.{_∙_}
 use lib.Bits.{bitXor}
 use borrow.Author.Needs.{needs}
 use Rattle.std.proofs.shelf.Edits.{map-over-more}

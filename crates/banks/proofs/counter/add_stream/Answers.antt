@@ -1,10 +1,9 @@
 use mathlib.Core.List.{List}
 use mathlib.Core.Logic.{_≢_}
-use mathlib.Core.Path.{_≡_, refl, sym, ap, ap₂, _∙_}
-use Prim.Native.Nat.{ℕ, _<_, _≤_, _+_, _/_, _%_}
+use mathlib.Core.Path.{_≡_, ap, ap₂, _∙_}
+use Prim.Native.Nat.{ℕ, _<_, _+_, _/_, _%_}
 use native.Mathlib.Omega.{arith}
 use borrow.Author.Count.{below-more}
-use borrow.Author.Needs.{needs}
 use lib.Bits.{bitXor}
 use lib.ListN.{length, getD}
 use lib.Seq.{getD-set-same, getD-set-other}

@@ -1,6 +1,5 @@
-use mathlib.Core.List.{List}
 use mathlib.Core.Path.{_≡_, sym, ap, _∙_}
-use Prim.Native.Nat.{ℕ, _<_, _^_}
+use Prim.Native.Nat.{_<_, _^_}
 use native.Mathlib.Omega.{arith}
 use Rattle.banks.specs.Keys.{iv-octets, iv-of}
 use Rattle.banks.proofs.KeyOctets.{iv-same, octets-sixteen}

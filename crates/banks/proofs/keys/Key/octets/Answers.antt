@@ -1,9 +1,8 @@
 use mathlib.Core.List.{List, _∷_, [], _++_}
-use mathlib.Core.Path.{_≡_, refl, sym, ap, ap₂, _∙_}
-use Prim.Native.Nat.{ℕ, _<_, _^_}
+use mathlib.Core.Path.{_≡_, sym, ap, ap₂, _∙_}
+use Prim.Native.Nat.{ℕ}
 use native.Mathlib.Omega.{arith}
 use lib.ListN.{getD}
-use Rattle.aes.specs.Octets.{octets}
 use Rattle.banks.specs.Keys.{key-octets, key-of}
 use Rattle.banks.proofs.KeyOctets.{key-same, octets-eight}
 use Rattle.banks.proofs.keys.Key.octets.Needs as need
