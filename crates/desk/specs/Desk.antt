@@ -9,12 +9,12 @@ use Rattle.std.specs.declared.option.Option.{Option}
 use Rattle.std.specs.declared.option.Option.the-variants.{Some, None}
 use Rattle.std.specs.declared.result.Result.{Result}
 use Rattle.std.specs.declared.result.Result.the-variants.{Ok, Err}
-use Rattle.desk.specs.declared.Component.{Component}
+use Rattle.rules.specs.declared.component.ComponentId.{ComponentId}
 use Rattle.desk.specs.declared.Declared.{Declared}
 use Rattle.desk.specs.declared.Desk.{Desk}
 use Rattle.desk.specs.declared.DeskFault.{DeskFault}
 use Rattle.desk.specs.declared.DeskFault.the-variants.{DeclaredTwice, NotDeclared, NoMemory}
-use Rattle.desk.specs.declared.ProfileLine.{ProfileLine}
+use Rattle.rules.specs.declared.profile.ProfileLine.{ProfileLine}
 use Rattle.script.specs.declared.statement.Name.{Name}
 use Rattle.script.specs.declared.statement.Name.the-variants as names
 use Rattle.script.specs.declared.statement.Places.{Places}
@@ -29,7 +29,7 @@ pub record Plan : Type 0 where
   pub ahead : ℕ
   pub fallback : Bool
   pub places : Places
-  pub listed : List Component
+  pub listed : List ComponentId
   pub profile : List ProfileLine
 
 abbrev pub plan : Declared → Plan

@@ -3,27 +3,14 @@ ghost use mathlib.Core.Path.{_≡_};
 ghost use Rattle.std.specs.declared.option.Option.the-variants.{None};
 ghost use Rattle.desk.specs.Desk.{planned, Enters, EntersDesk};
 ghost use Rattle.script.specs.Statements.{subject};
+use rules::component::ComponentId;
+use rules::profile::ProfileLine;
 use script::statement::Name;
 use script::statement::NameDisplay;
 use script::statement::Places;
 use script::statement::Statement;
 use std::alloc::Global;
 use std::fmt;
-
-/// A component that has to be protected: its kind and its code.
-#[derive(Clone, Copy)]
-pub struct Component {
-    pub kind: u8,
-    pub code: u8,
-}
-
-/// The protection level of a code under a PPI.
-#[derive(Clone, Copy)]
-pub struct ProfileLine {
-    pub ppi: u16,
-    pub code: u8,
-    pub level: u8,
-}
 
 /// What is declared of a station.
 #[derive(Drop)]
@@ -34,7 +21,7 @@ pub struct Declared {
     pub ahead: u64,
     pub fallback: bool,
     pub places: Places,
-    pub listed: Vec<Component>,
+    pub listed: Vec<ComponentId>,
     pub profile: Vec<ProfileLine>,
 }
 
@@ -88,7 +75,7 @@ fn enter(
             });
             Ok(())
         }
-        Statement::Listed { name, kind, code } => list(declared, name, Component { kind, code }),
+        Statement::Listed { name, kind, code } => list(declared, name, ComponentId { kind, code }),
         Statement::Profile {
             name,
             ppi,
@@ -99,7 +86,7 @@ fn enter(
 }
 
 /// Adds a listed component.
-fn list(declared: &mut Option<Declared>, name: Name, component: Component) -> Result<(), DeskFault>
+fn list(declared: &mut Option<Declared>, name: Name, component: ComponentId) -> Result<(), DeskFault>
     ensures { λ r. ⌜ Enters (Statement.Listed name (component .kind) (component .code)) (planned (now (declared .entry))) (planned (now (declared .exit))) r ⌝ }
 {
     match declared {

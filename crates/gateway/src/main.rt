@@ -5,6 +5,9 @@ use desk::Desk;
 use desk::DeskFaultDisplay;
 use lines::LineCutter;
 use lines::LineFaultDisplay;
+use rules::refusal::Refusal;
+use rules::refusal::RefusalDisplay;
+use rules::settings::Settings;
 use script::fault::FaultDisplay;
 use script::statement::Name;
 use script::statement::NameDisplay;
@@ -21,14 +24,6 @@ const STANDARD_INPUT: &str = "standard input";
 /// The program cannot go on; the reason stands on standard error.
 #[derive(Drop)]
 struct Stopped;
-
-/// A station that cannot be made: the refusal's number, its layer and the place.
-#[derive(Drop)]
-struct Refused {
-    number: u8,
-    layer: u8,
-    place: u64,
-}
 
 /// Says what the program cannot use, and why.
 fn stop(
@@ -161,28 +156,23 @@ fn read_all(rt: &LibcRuntime, desk: &mut Desk) -> Result<(), Stopped> {
     }
 }
 
-/// Makes the station that is declared.
-fn settle(_declared: Declared) -> Result<(), Refused> {
-    Ok(())
+/// The settings that are declared.
+fn settle(declared: Declared) -> Result<Settings, Refusal> {
+    let Declared { own, ne_id, back, ahead, fallback, places: _, listed, profile } = declared;
+    Settings::new(own, ne_id, back, ahead, fallback, listed, profile)
 }
 
-/// Answers for a station that is declared.
+/// Answers for a station that is declared: whether it can be made, and where it cannot the cause in words.
 fn answer(rt: &LibcRuntime, name: Name, declared: Option<Declared>) -> Result<(), Stopped> {
     let Some(declared) = declared else {
         return Ok(());
     };
     match settle(declared) {
-        Ok(()) => written(rt, println!(rt, "0 {name} station ok")),
-        Err(refused) => {
-            let Refused {
-                number,
-                layer,
-                place,
-            } = refused;
-            let line = format_args!(
-                "0 {name} station refused {number} layer {layer} place {place}"
-            );
-            written(rt, rt.println(line))?;
+        Ok(_) => written(rt, println!(rt, "0 {name} station ok")),
+        Err(refusal) => {
+            let (number, layer, place) = (refusal.number(), refusal.layer(), refusal.place());
+            written(rt, println!(rt, "0 {name} station refused {number} layer {layer} place {place}"))?;
+            let _ = eprintln!(rt, "station {name}: {refusal}");
             Err(Stopped)
         }
     }
