@@ -3,3 +3,4 @@ pub mod KeyOctets
 pub mod Laws
 pub mod Stream
 pub mod Chaining
+pub mod Deliveries

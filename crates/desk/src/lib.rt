@@ -86,7 +86,11 @@ fn enter(
 }
 
 /// Adds a listed component.
-fn list(declared: &mut Option<Declared>, name: Name, component: ComponentId) -> Result<(), DeskFault>
+fn list(
+    declared: &mut Option<Declared>,
+    name: Name,
+    component: ComponentId,
+) -> Result<(), DeskFault>
     ensures { λ r. ⌜ Enters (Statement.Listed name (component .kind) (component .code)) (planned (now (declared .entry))) (planned (now (declared .exit))) r ⌝ }
 {
     match declared {

@@ -158,7 +158,16 @@ fn read_all(rt: &LibcRuntime, desk: &mut Desk) -> Result<(), Stopped> {
 
 /// The settings that are declared.
 fn settle(declared: Declared) -> Result<Settings, Refusal> {
-    let Declared { own, ne_id, back, ahead, fallback, places: _, listed, profile } = declared;
+    let Declared {
+        own,
+        ne_id,
+        back,
+        ahead,
+        fallback,
+        places: _,
+        listed,
+        profile,
+    } = declared;
     Settings::new(own, ne_id, back, ahead, fallback, listed, profile)
 }
 
@@ -171,7 +180,13 @@ fn answer(rt: &LibcRuntime, name: Name, declared: Option<Declared>) -> Result<()
         Ok(_) => written(rt, println!(rt, "0 {name} station ok")),
         Err(refusal) => {
             let (number, layer, place) = (refusal.number(), refusal.layer(), refusal.place());
-            written(rt, println!(rt, "0 {name} station refused {number} layer {layer} place {place}"))?;
+            written(
+                rt,
+                println!(
+                    rt,
+                    "0 {name} station refused {number} layer {layer} place {place}"
+                ),
+            )?;
             let _ = eprintln!(rt, "station {name}: {refusal}");
             Err(Stopped)
         }

@@ -180,10 +180,19 @@ pub fn read(message: &[u8], mode: ProtectionMode) -> Result<Message<'_>, Refusal
         }
         let end = length - 4;
         return Ok(Message::Sealed(SealedMessage {
-            header: Part { place: 0, octets: &message[0..20] },
+            header: Part {
+                place: 0,
+                octets: &message[0..20],
+            },
             fields: fields_of(message),
-            payload: Part { place: 20, octets: &message[20..end] },
-            tag: Part { place: end, octets: &message[end..length] },
+            payload: Part {
+                place: 20,
+                octets: &message[20..end],
+            },
+            tag: Part {
+                place: end,
+                octets: &message[end..length],
+            },
             claimed: u32_at(message, end),
         }));
     }
@@ -191,8 +200,14 @@ pub fn read(message: &[u8], mode: ProtectionMode) -> Result<Message<'_>, Refusal
         return Err(Refusal::MessageTooShort { length });
     }
     Ok(Message::Open(OpenMessage {
-        header: Part { place: 0, octets: &message[0..6] },
-        payload: Part { place: 6, octets: &message[6..length] },
+        header: Part {
+            place: 0,
+            octets: &message[0..6],
+        },
+        payload: Part {
+            place: 6,
+            octets: &message[6..length],
+        },
     }))
 }
 

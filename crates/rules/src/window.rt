@@ -51,6 +51,8 @@ impl Window {
         if age <= self.back {
             return reading.saturating_add(self.back).saturating_sub(age);
         }
-        reading.saturating_add(u64::from(lead(reading, stamp))).saturating_add(self.back)
+        reading
+            .saturating_add(u64::from(lead(reading, stamp)))
+            .saturating_add(self.back)
     }
 }

@@ -180,16 +180,16 @@ module _ (c : Call) where
           let told = reads-short m (protects mode) r p in
           ⊎-elim
           (λ t. let short : ltb (length m) 24 ≡ true = lt-ltb (length m) 24 (subst (λ b. length m < cond b 24 6) t (told .1)) in
-            let first-of : decided (sealed-checks c A) (handed-under c A) ≡ Err (MessageTooShort (length m)) = ap (λ b. or-else (cond b (Some (MessageTooShort (length m))) (first (drop 1 (sealed-checks c A)))) (handed-under c A)) short in
-            turns-away answer r is (sym (at-body ∙ ap (λ b. decided (cond b (sealed-checks c A) (unsealed-checks c)) (handed-under c A)) (sym guards ∙ t) ∙ first-of ∙ ap Err (sym (told .0)))))
+          let first-of : decided (sealed-checks c A) (handed-under c A) ≡ Err (MessageTooShort (length m)) = ap (λ b. or-else (cond b (Some (MessageTooShort (length m))) (first (drop 1 (sealed-checks c A)))) (handed-under c A)) short in
+          turns-away answer r is (sym (at-body ∙ ap (λ b. decided (cond b (sealed-checks c A) (unsealed-checks c)) (handed-under c A)) (sym guards ∙ t) ∙ first-of ∙ ap Err (sym (told .0)))))
           (λ t. absurd (let short : length m < 6 = subst (λ b. length m < cond b 24 6) t (told .1) in omega arith))
           (cases-bool (protects mode))
 
       pub hands-open : (o : OpenMessage) → Reads m mode (Ok (Open o)) → (station : Station) (output : List ℕ) (r : Result Handed Refusal)
-        → r ≡ decided (open-checks s (got .0 .component) (o .payload .octets .now) (length (c .output))) (record { component = got .0 .component; mode = mode; «length» = length (o .payload .octets .now) })
-        → (isErr r ≡ true → (station ≡ c .station) × (output ≡ c .output))
-        → (isOk r ≡ true → (station ≡ read-at (c .reading) (c .station)) × (output ≡ o .payload .octets .now ++ drop (length (o .payload .octets .now)) (c .output)))
-        → Received c station (c .contents) output r
+          → r ≡ decided (open-checks s (got .0 .component) (o .payload .octets .now) (length (c .output))) (record { component = got .0 .component; mode = mode; «length» = length (o .payload .octets .now) })
+          → (isErr r ≡ true → (station ≡ c .station) × (output ≡ c .output))
+          → (isOk r ≡ true → (station ≡ read-at (c .reading) (c .station)) × (output ≡ o .payload .octets .now ++ drop (length (o .payload .octets .now)) (c .output)))
+          → Received c station (c .contents) output r
       hands-open o p station output r answer refused accepted =
           let told = reads-open m (protects mode) o p in
           let plain : protects (mode-under c A) ≡ false = sym guards ∙ told .0 in
@@ -199,13 +199,13 @@ module _ (c : Call) where
           let clear : cleartext-under c A ≡ open-payload m = cond-false _ _ _ plain in
           let same-body : decided (body-checks c A) (handed-under c A) ≡ decided (unsealed-checks c) (handed-under c A) = ap (λ b. decided (cond b (sealed-checks c A) (unsealed-checks c)) (handed-under c A)) plain in
           let outcome : record { component = got .0 .component; mode = mode; «length» = length (o .payload .octets .now) } ≡ handed-under c A =
-              ap (λ x. record { component = x; mode = mode; «length» = length (o .payload .octets .now) }) (ap (λ x. x .component) h-is)
-              ∙ ap (λ x. record { component = header-in m .component; mode = x; «length» = length (o .payload .octets .now) }) modes
-              ∙ ap (λ x. record { component = header-in m .component; mode = mode-under c A; «length» = x }) (ap length payload ∙ size ∙ sym sizes) in
+          ap (λ x. record { component = x; mode = mode; «length» = length (o .payload .octets .now) }) (ap (λ x. x .component) h-is)
+          ∙ ap (λ x. record { component = header-in m .component; mode = x; «length» = length (o .payload .octets .now) }) modes
+          ∙ ap (λ x. record { component = header-in m .component; mode = mode-under c A; «length» = x }) (ap length payload ∙ size ∙ sym sizes) in
           record {
             answer = answer ∙ ap (λ x. decided (open-checks s (x .component) (o .payload .octets .now) (length (c .output))) (record { component = got .0 .component; mode = mode; «length» = length (o .payload .octets .now) })) h-is
-              ∙ ap (λ x. decided (open-checks s (header-in m .component) x (length (c .output))) (record { component = got .0 .component; mode = mode; «length» = length (o .payload .octets .now) })) payload
-              ∙ ap (decided (unsealed-checks c)) outcome ∙ sym (at-body ∙ same-body);
+                ∙ ap (λ x. decided (open-checks s (header-in m .component) x (length (c .output))) (record { component = got .0 .component; mode = mode; «length» = length (o .payload .octets .now) })) payload
+                ∙ ap (decided (unsealed-checks c)) outcome ∙ sym (at-body ∙ same-body);
             refused = λ e. (refused e .0, refl, refused e .1);
             accepted = λ e. record {
               station-is = accepted e .0;
@@ -233,42 +233,42 @@ module _ (c : Call) where
           let keys : key ≡ key-for c = key-is ∙ ap (λ x. heard-key (c .network) (x .spi) (z .fields)) h-is ∙ ap (heard-key (c .network) (header-in m .spi)) (parts .fields) in
           -- the checks and the outcome over the pieces that the code has, and over the message
           let over-pieces : HeardKey → SecurityAssociation → List ℕ → ℕ → ℕ → ℕ → Handed → Result Handed Refusal =
-              λ k a covered claimed place n handed. decided (((ltb 1024 n, CleartextTooLong 20) ∷ []) ++ (fresh-checks s (c .tags) (c .contents .heard) (c .reading) k a covered claimed place ++ room-checks (c .contents .heard) (c .reading) n (length (c .output)))) handed in
+          λ k a covered claimed place n handed. decided (((ltb 1024 n, CleartextTooLong 20) ∷ []) ++ (fresh-checks s (c .tags) (c .contents .heard) (c .reading) k a covered claimed place ++ room-checks (c .contents .heard) (c .reading) n (length (c .output)))) handed in
           let handed : record { component = got .0 .component; mode = mode; «length» = length (z .payload .octets .now) } ≡ handed-under c A =
-              ap (λ x. record { component = x .component; mode = mode; «length» = length (z .payload .octets .now) }) h-is
-              ∙ ap (λ x. record { component = header-in m .component; mode = x; «length» = length (z .payload .octets .now) }) modes
-              ∙ ap (λ x. record { component = header-in m .component; mode = mode-under c A; «length» = x }) (size ∙ sym sizes) in
+          ap (λ x. record { component = x .component; mode = mode; «length» = length (z .payload .octets .now) }) h-is
+          ∙ ap (λ x. record { component = header-in m .component; mode = x; «length» = length (z .payload .octets .now) }) modes
+          ∙ ap (λ x. record { component = header-in m .component; mode = mode-under c A; «length» = x }) (size ∙ sym sizes) in
           let covered : z .header .octets .now ++ z .payload .octets .now ≡ covered-in m = ap (λ x. x ++ z .payload .octets .now) header ∙ ap (λ x. part 0 20 m ++ x) payload in
           let pieces : decided (hand-over-checks (over z key)) (over z key .handed) ≡ over-pieces (key-for c) A (covered-in m) (tag-in m) (length m - 4) (length m - 24) (handed-under c A) =
-              ap (λ x. over-pieces x (got .1) (z .header .octets .now ++ z .payload .octets .now) (z .claimed) (z .tag .place) (length (z .payload .octets .now)) (over z key .handed)) keys
-              ∙ ap (λ x. over-pieces (key-for c) x (z .header .octets .now ++ z .payload .octets .now) (z .claimed) (z .tag .place) (length (z .payload .octets .now)) (over z key .handed)) a-is
-              ∙ ap (λ x. over-pieces (key-for c) A x (z .claimed) (z .tag .place) (length (z .payload .octets .now)) (over z key .handed)) covered
-              ∙ ap (λ x. over-pieces (key-for c) A (covered-in m) x (z .tag .place) (length (z .payload .octets .now)) (over z key .handed)) (parts .claimed)
-              ∙ ap (λ x. over-pieces (key-for c) A (covered-in m) (tag-in m) x (length (z .payload .octets .now)) (over z key .handed)) (parts .tag .place-is)
-              ∙ ap (λ x. over-pieces (key-for c) A (covered-in m) (tag-in m) (length m - 4) x (over z key .handed)) size
-              ∙ ap (over-pieces (key-for c) A (covered-in m) (tag-in m) (length m - 4) (length m - 24)) handed in
+          ap (λ x. over-pieces x (got .1) (z .header .octets .now ++ z .payload .octets .now) (z .claimed) (z .tag .place) (length (z .payload .octets .now)) (over z key .handed)) keys
+          ∙ ap (λ x. over-pieces (key-for c) x (z .header .octets .now ++ z .payload .octets .now) (z .claimed) (z .tag .place) (length (z .payload .octets .now)) (over z key .handed)) a-is
+          ∙ ap (λ x. over-pieces (key-for c) A x (z .claimed) (z .tag .place) (length (z .payload .octets .now)) (over z key .handed)) covered
+          ∙ ap (λ x. over-pieces (key-for c) A (covered-in m) x (z .tag .place) (length (z .payload .octets .now)) (over z key .handed)) (parts .claimed)
+          ∙ ap (λ x. over-pieces (key-for c) A (covered-in m) (tag-in m) x (length (z .payload .octets .now)) (over z key .handed)) (parts .tag .place-is)
+          ∙ ap (λ x. over-pieces (key-for c) A (covered-in m) (tag-in m) (length m - 4) x (over z key .handed)) size
+          ∙ ap (over-pieces (key-for c) A (covered-in m) (tag-in m) (length m - 4) (length m - 24)) handed in
           let long-enough : ltb (length m) 24 ≡ false = le-ltb (length m) 24 (told .1) in
           let whole : decided (checks c) (handed-under c A) ≡ over-pieces (key-for c) A (covered-in m) (tag-in m) (length m - 4) (length m - 24) (handed-under c A) =
-              at-body ∙ ap (λ b. decided (cond b (sealed-checks c A) (unsealed-checks c)) (handed-under c A)) sealed
-              ∙ ap (λ b. or-else (cond b (Some (MessageTooShort (length m))) (first (drop 1 (sealed-checks c A)))) (handed-under c A)) long-enough in
+          at-body ∙ ap (λ b. decided (cond b (sealed-checks c A) (unsealed-checks c)) (handed-under c A)) sealed
+          ∙ ap (λ b. or-else (cond b (Some (MessageTooShort (length m))) (first (drop 1 (sealed-checks c A)))) (handed-under c A)) long-enough in
           let F : SecurityAssociation → IvFields → ProtectionMode → List ℕ → List ℕ = turned (c .ciphers) in
           let clear : F (got .1) (z .fields) mode (z .payload .octets .now) ≡ cleartext-under c A =
-              ap (λ x. F x (z .fields) mode (z .payload .octets .now)) a-is
-              ∙ ap (λ x. F A x mode (z .payload .octets .now)) (parts .fields)
-              ∙ ap (λ x. F A (fields-in m) x (z .payload .octets .now)) modes
-              ∙ ap (F A (fields-in m) (mode-under c A)) payload
-              ∙ sym (cond-true _ _ _ sealed) in
+          ap (λ x. F x (z .fields) mode (z .payload .octets .now)) a-is
+          ∙ ap (λ x. F A x mode (z .payload .octets .now)) (parts .fields)
+          ∙ ap (λ x. F A (fields-in m) x (z .payload .octets .now)) modes
+          ∙ ap (F A (fields-in m) (mode-under c A)) payload
+          ∙ sym (cond-true _ _ _ sealed) in
           record {
             answer = o .answer ∙ pieces ∙ sym whole;
             refused = o .refused;
             accepted = λ e.
-              let done-over = o .accepted e in
-              record {
-                station-is = done-over .station-is;
-                output-is = done-over .output-is ∙ ap (λ x. x ++ drop (length (z .payload .octets .now)) (c .output)) clear ∙ ap (λ n. cleartext-under c A ++ drop n (c .output)) (size ∙ sym sizes);
-                policies = done-over .policies;
-                associations = done-over .associations;
-                remembered = λ _. subst (λ k. Heard-added (record { key = k; last = last-tick (s .back) (c .reading) (k .tvp) }) (c .reading) (c .contents .heard) (after .heard)) keys (done-over .remembered);
-                nothing-remembered = λ t. absurd (both-ways _ t sealed);
-              };
+                let done-over = o .accepted e in
+                record {
+                  station-is = done-over .station-is;
+                  output-is = done-over .output-is ∙ ap (λ x. x ++ drop (length (z .payload .octets .now)) (c .output)) clear ∙ ap (λ n. cleartext-under c A ++ drop n (c .output)) (size ∙ sym sizes);
+                  policies = done-over .policies;
+                  associations = done-over .associations;
+                  remembered = λ _. subst (λ k. Heard-added (record { key = k; last = last-tick (s .back) (c .reading) (k .tvp) }) (c .reading) (c .contents .heard) (after .heard)) keys (done-over .remembered);
+                  nothing-remembered = λ t. absurd (both-ways _ t sealed);
+                };
           }

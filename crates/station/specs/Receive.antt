@@ -66,20 +66,20 @@ association-of own reading network spi contents = from-network reading network (
 abbrev pub entrance-checks : Settings → Contents → ℕ → ℕ → List ℕ → List (Bool × Refusal)
 entrance-checks s contents reading network message =
     (ltb (length message) 6, MessageTooShort (length message))
-  ∷ (not (isSome (kind-of (header-in message .component .kind))), UnknownKind 4)
-  ∷ (not (isSome (policy-under network (contents .policies))), NoPolicy)
-  ∷ (is-plain (policy-under network (contents .policies)), SecuredFromPlainNetwork)
-  ∷ (not (isSome (association-of (s .own) reading network (header-in message .spi) contents)), NoLiveAssociation)
-  ∷ []
+    ∷ (not (isSome (kind-of (header-in message .component .kind))), UnknownKind 4)
+    ∷ (not (isSome (policy-under network (contents .policies))), NoPolicy)
+    ∷ (is-plain (policy-under network (contents .policies)), SecuredFromPlainNetwork)
+    ∷ (not (isSome (association-of (s .own) reading network (header-in message .spi) contents)), NoLiveAssociation)
+    ∷ []
 
 -- IN MODE 0
 
 abbrev pub open-checks : Settings → ComponentId → List ℕ → ℕ → List (Bool × Refusal)
 open-checks s id payload room =
     (ltb 1024 (length payload), CleartextTooLong 6)
-  ∷ (listed-in id (vec-items (s .listed)) && not (s .fallback), ListedUnprotected 4)
-  ∷ (ltb room (length payload), OutputTooShort (length payload))
-  ∷ []
+    ∷ (listed-in id (vec-items (s .listed)) && not (s .fallback), ListedUnprotected 4)
+    ∷ (ltb room (length payload), OutputTooShort (length payload))
+    ∷ []
 
 -- IN MODES 1 AND 2
 
@@ -91,23 +91,23 @@ heard-key network spi f = record { network = network; spi = spi; tvp = f .tvp; �
 abbrev pub fresh-checks : Settings → Tags → Heard → ℕ → HeardKey → SecurityAssociation → List ℕ → ℕ → ℕ → List (Bool × Refusal)
 fresh-checks s tags heard reading key a covered claimed place =
     (not (in-window (s .back) (s .ahead) reading (key .tvp)), OutsideWindow)
-  ∷ (not (eqb (tag-under tags a covered) claimed), TagDiffers place)
-  ∷ (isSome (fresh-under reading key heard), HeardBefore)
-  ∷ []
+    ∷ (not (eqb (tag-under tags a covered) claimed), TagDiffers place)
+    ∷ (isSome (fresh-under reading key heard), HeardBefore)
+    ∷ []
 
 -- room for the cleartext, and for one more heard message
 abbrev pub room-checks : Heard → ℕ → ℕ → ℕ → List (Bool × Refusal)
 room-checks heard reading needed room =
     (ltb room needed, OutputTooShort needed)
-  ∷ (leb (length heard) (fresh-count reading heard), HeardFull (length heard))
-  ∷ []
+    ∷ (leb (length heard) (fresh-count reading heard), HeardFull (length heard))
+    ∷ []
 
 -- not too short for header and tag, and not too long
 abbrev pub shape-checks : List ℕ → List (Bool × Refusal)
 shape-checks message =
     (ltb (length message) 24, MessageTooShort (length message))
-  ∷ (ltb 1024 (length message - 24), CleartextTooLong 20)
-  ∷ []
+    ∷ (ltb 1024 (length message - 24), CleartextTooLong 20)
+    ∷ []
 
 -- what the tag is over: the header and the payload
 abbrev pub covered-in : List ℕ → List ℕ

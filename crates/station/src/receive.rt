@@ -48,11 +48,22 @@ pub struct Handed {
 fn key_of(network: u32, spi: u32, fields: IvFields) -> HeardKey
     ensures { λ r. ⌜ r ≡ heard-key network spi fields ⌝ }
 {
-    HeardKey { network, spi, tvp: fields.tvp, ne_id: fields.ne_id, prop: fields.prop }
+    HeardKey {
+        network,
+        spi,
+        tvp: fields.tvp,
+        ne_id: fields.ne_id,
+        prop: fields.prop,
+    }
 }
 
 // Room for the cleartext, and for one more heard message.
-fn room(registers: &Registers<'_>, reading: u64, needed: usize, output: usize) -> Result<(), Refusal>
+fn room(
+    registers: &Registers<'_>,
+    reading: u64,
+    needed: usize,
+    output: usize,
+) -> Result<(), Refusal>
     ensures { λ r. ⌜ r ≡ decided (room-checks (now (now (registers .entry) .heard .places)) reading needed output) tt ⌝ }
 {
     if output < needed {
@@ -67,10 +78,19 @@ fn room(registers: &Registers<'_>, reading: u64, needed: usize, output: usize) -
 
 impl Station {
     // The association that a network sends under to this station, with an SPI.
-    fn association_from(&self, registers: &Registers<'_>, reading: u64, network: u32, spi: u32) -> Option<SecurityAssociation>
+    fn association_from(
+        &self,
+        registers: &Registers<'_>,
+        reading: u64,
+        network: u32,
+        spi: u32,
+    ) -> Option<SecurityAssociation>
         ensures { λ r. ⌜ r ≡ association-of (now (self .entry) .settings .own) reading network spi (contents-of (now (registers .entry))) ⌝ }
     {
-        match registers.association(AssociationKey { destination: self.settings.own(), spi }) {
+        match registers.association(AssociationKey {
+            destination: self.settings.own(),
+            spi,
+        }) {
             Some(association) => {
                 if (association.sender == network) & association.is_live(reading) {
                     Some(association)
@@ -83,7 +103,13 @@ impl Station {
     }
 
     // The header of a message, which has to be of a known kind, from a network that sends MAPsec, under a live association.
-    fn entrance(&self, registers: &Registers<'_>, reading: u64, network: u32, message: &[u8]) -> Result<(SecurityHeader, SecurityAssociation), Refusal>
+    fn entrance(
+        &self,
+        registers: &Registers<'_>,
+        reading: u64,
+        network: u32,
+        message: &[u8],
+    ) -> Result<(SecurityHeader, SecurityAssociation), Refusal>
         ensures { λ r. ⌜ r ≡ decided (entrance-checks (now (self .entry) .settings) (contents-of (now (registers .entry))) reading network (now (message .entry))) (header-in (now (message .entry)), association-or-blank (association-of (now (self .entry) .settings .own) reading network (header-in (now (message .entry)) .spi) (contents-of (now (registers .entry))))) ⌝ }
     {
         let header = SecurityHeader::read(message)?;
@@ -120,7 +146,15 @@ impl Station {
     }
 
     // A sealed message: fresh, rightly tagged, and not heard before. It answers the last tick at which it is still fresh.
-    fn fresh<T: TagBank>(&self, registers: &Registers<'_>, tags: &mut T, reading: u64, key: HeardKey, association: &SecurityAssociation, message: &SealedMessage<'_>) -> Result<u64, Refusal>
+    fn fresh<T: TagBank>(
+        &self,
+        registers: &Registers<'_>,
+        tags: &mut T,
+        reading: u64,
+        key: HeardKey,
+        association: &SecurityAssociation,
+        message: &SealedMessage<'_>,
+    ) -> Result<u64, Refusal>
         requires { ⌜ reading < 281474976710656 ⌝ }
         ensures tags { λ _. ⌜ T·TagBank .means (now (tags .exit)) ≡ T·TagBank .means (now (tags .entry)) ⌝ }
         ensures answer { λ r. ⌜ r ≡ decided (fresh-checks (now (self .entry) .settings) (T·TagBank .means (now (tags .entry))) (now (now (registers .entry) .heard .places)) reading key (now (association .entry)) (now (now (message .entry) .header .octets) ++ now (now (message .entry) .payload .octets)) (now (message .entry) .claimed) (now (message .entry) .tag .place)) (last-tick (now (self .entry) .settings .back) reading (key .tvp)) ⌝ }
@@ -129,8 +163,17 @@ impl Station {
         if !window.contains(reading, key.tvp) {
             return Err(Refusal::OutsideWindow);
         }
-        if tags.tag(association.mia, &association.integrity_key, message.header.octets, message.payload.octets) != message.claimed {
-            return Err(Refusal::TagDiffers { place: message.tag.place });
+        if tags.tag(
+            association.mia,
+            &association.integrity_key,
+            message.header.octets,
+            message.payload.octets,
+        )
+            != message.claimed
+        {
+            return Err(Refusal::TagDiffers {
+                place: message.tag.place,
+            });
         }
         if registers.heard_fresh(key, reading) {
             return Err(Refusal::HeardBefore);
@@ -139,7 +182,13 @@ impl Station {
     }
 
     // Hands on an open message.
-    fn hand_open(&mut self, reading: u64, handed: Handed, payload: &[u8], output: &mut [u8]) -> Result<Handed, Refusal>
+    fn hand_open(
+        &mut self,
+        reading: u64,
+        handed: Handed,
+        payload: &[u8],
+        output: &mut [u8],
+    ) -> Result<Handed, Refusal>
         ensures answer { λ r. ⌜ r ≡ decided (open-checks (now (self .entry) .settings) (handed .component) (now (payload .entry)) (length (now (output .entry)))) handed ⌝ }
         ensures refused { λ r. ⌜ (isErr r ≡ true → (now (self .exit) ≡ now (self .entry)) × (now (output .exit) ≡ now (output .entry))) ⌝ }
         ensures accepted { λ r. ⌜ (isOk r ≡ true → (now (self .exit) ≡ read-at reading (now (self .entry))) × (now (output .exit) ≡ now (payload .entry) ++ drop (length (now (payload .entry))) (now (output .entry)))) ⌝ }
@@ -176,7 +225,13 @@ impl Station {
         let last = self.fresh(registers, tags, reading, key, association, message)?;
         room(registers, reading, needed, output.len())?;
         output[0..needed].copy_from_slice(payload);
-        turn(ciphers, association, message.fields, handed.mode, &mut output[0..needed]);
+        turn(
+            ciphers,
+            association,
+            message.fields,
+            handed.mode,
+            &mut output[0..needed],
+        );
         registers.remember(HeardMessage { key, last }, reading);
         self.latest = reading;
         Ok(handed)
@@ -202,13 +257,31 @@ impl Station {
         let mode = self.settings.mode(association.ppi, header.component);
         match read(message, mode)? {
             Message::Open(open) => {
-                let handed = Handed { component: header.component, mode, length: open.payload.octets.len() };
+                let handed = Handed {
+                    component: header.component,
+                    mode,
+                    length: open.payload.octets.len(),
+                };
                 self.hand_open(reading, handed, open.payload.octets, output)
             }
             Message::Sealed(sealed) => {
-                let handed = Handed { component: header.component, mode, length: sealed.payload.octets.len() };
+                let handed = Handed {
+                    component: header.component,
+                    mode,
+                    length: sealed.payload.octets.len(),
+                };
                 let key = key_of(network, header.spi, sealed.fields);
-                self.hand_sealed(registers, ciphers, tags, reading, key, &association, handed, &sealed, output)
+                self.hand_sealed(
+                    registers,
+                    ciphers,
+                    tags,
+                    reading,
+                    key,
+                    &association,
+                    handed,
+                    &sealed,
+                    output,
+                )
             }
         }
     }
@@ -230,11 +303,19 @@ impl Station {
         ensures received { λ r. ⌜ Received (record { station = now (self .entry); contents = contents-of (now (registers .entry)); ciphers = C·CipherBank .means (now (ciphers .entry)); tags = T·TagBank .means (now (tags .entry)); reading = reading; network = network; message = now (message .entry); output = now (output .entry) }) (now (self .exit)) (contents-of (now (registers .exit))) (now (output .exit)) (r .outcome) ⌝ }
         ensures slip { λ r. ⌜ r .slip ≡ record { number = refusal-number (r .outcome); waiting = waiting } ⌝ }
     {
-        with_slip(self.take(registers, ciphers, tags, reading, network, message, output), waiting)
+        with_slip(
+            self.take(registers, ciphers, tags, reading, network, message, output),
+            waiting,
+        )
     }
 
     // The checks of a component that came without MAPsec.
-    fn take_plain(&mut self, reading: u64, component: ComponentId, length: usize) -> Result<Handed, Refusal>
+    fn take_plain(
+        &mut self,
+        reading: u64,
+        component: ComponentId,
+        length: usize,
+    ) -> Result<Handed, Refusal>
         ensures { λ r. ⌜ Taken-plain reading component length (now (self .entry)) (now (self .exit)) r ⌝ }
     {
         self.clock(reading)?;
@@ -243,14 +324,27 @@ impl Station {
             return Err(Refusal::ListedUnprotected { place: 0 });
         }
         self.latest = reading;
-        Ok(Handed { component, mode: ProtectionMode::NoProtection, length })
+        Ok(Handed {
+            component,
+            mode: ProtectionMode::NoProtection,
+            length,
+        })
     }
 
     // Takes a component that came without MAPsec, and writes nothing; a slip is left to be closed.
-    pub(crate) fn plain(&mut self, reading: u64, component: ComponentId, waiting: bool, cleartext: &[u8]) -> Answer<Handed>
+    pub(crate) fn plain(
+        &mut self,
+        reading: u64,
+        component: ComponentId,
+        waiting: bool,
+        cleartext: &[u8],
+    ) -> Answer<Handed>
         ensures taken { λ r. ⌜ Taken-plain reading component (length (now (cleartext .entry))) (now (self .entry)) (now (self .exit)) (r .outcome) ⌝ }
         ensures slip { λ r. ⌜ r .slip ≡ record { number = refusal-number (r .outcome); waiting = waiting } ⌝ }
     {
-        with_slip(self.take_plain(reading, component, cleartext.len()), waiting)
+        with_slip(
+            self.take_plain(reading, component, cleartext.len()),
+            waiting,
+        )
     }
 }

@@ -22,8 +22,17 @@ pub(crate) fn with_slip<V>(outcome: Result<V, Refusal>, waiting: bool) -> Answer
     ensures slip { λ r. ⌜ r .slip ≡ record { number = refusal-number outcome; waiting = waiting } ⌝ }
 {
     match outcome {
-        Ok(value) => Answer { outcome: Ok(value), slip: Slip { number: 0, waiting } },
-        Err(refusal) => Answer { outcome: Err(refusal), slip: Slip { number: refusal.number(), waiting } },
+        Ok(value) => Answer {
+            outcome: Ok(value),
+            slip: Slip { number: 0, waiting },
+        },
+        Err(refusal) => Answer {
+            outcome: Err(refusal),
+            slip: Slip {
+                number: refusal.number(),
+                waiting,
+            },
+        },
     }
 }
 
@@ -33,13 +42,7 @@ pub fn close(slip: Slip) -> u8
 {
     let Slip { number, waiting } = slip;
     match number {
-        21 | 22 | 23 | 31 | 42 => {
-            if waiting {
-                number
-            } else {
-                0
-            }
-        }
+        21 | 22 | 23 | 31 | 42 => { if waiting { number } else { 0 } }
         _ => 0,
     }
 }

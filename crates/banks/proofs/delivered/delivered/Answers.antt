@@ -1,22 +1,5 @@
-use mathlib.Core.Path.{_≡_, refl}
-use Prim.Native.Nat.{ℕ, zero, suc}
-use native.Mathlib.Omega.{arith}
-use Rattle.std.proofs.shelf.Tests.{ne-eqb}
-use Rattle.banks.specs.Ciphers.{null-cipher, either}
-use Rattle.banks.specs.Delivered.{delivered-ciphers, delivered-tags}
-use Rattle.banks.specs.Mea1.{mea1-cipher}
-use Rattle.banks.specs.Mia1.{mia1-tag}
+use Rattle.banks.proofs.Deliveries.{ciphers-delivered, tags-delivered}
 use Rattle.banks.proofs.delivered.delivered.Needs as need
 
-ciphers-at : (n : ℕ) → either null-cipher mea1-cipher n ≡ delivered-ciphers n
-ciphers-at zero = refl
-ciphers-at (suc zero) = refl
-ciphers-at (suc (suc n)) = rw (ne-eqb (suc (suc n)) 0 (λ e. omega arith), ne-eqb (suc (suc n)) 1 (λ e. omega arith)) refl
-
-tags-at : (n : ℕ) → mia1-tag n ≡ delivered-tags n
-tags-at zero = refl
-tags-at (suc zero) = refl
-tags-at (suc (suc n)) = rw (ne-eqb (suc (suc n)) 1 (λ e. omega arith)) refl
-
 pub returns : need.returns
-returns c = record { ciphers = λ i n. ciphers-at n i; tags = λ i n. tags-at n i }
+returns c = record { ciphers = ciphers-delivered; tags = tags-delivered }

@@ -22,22 +22,28 @@ returns-then-protects c =
     let fields = c .fields-of .ensures in
     let tag = c .u32-at .ensures in
     let whole = sealed-laid xs o (omega arith) in
-    rw sealed (omega arith, record {
-      header = record { place-is = refl; octets-are = refl; inside = omega arith };
-      fields = fields;
-      payload = record { place-is = refl; octets-are = body; inside = omega arith };
-      tag = record { place-is = refl; octets-are = ending; inside = omega arith };
-      claimed = tag;
-      laid-out = cc;
-    })
+    rw sealed (
+      omega arith,
+      record {
+        header = record { place-is = refl; octets-are = refl; inside = omega arith };
+        fields = fields;
+        payload = record { place-is = refl; octets-are = body; inside = omega arith };
+        tag = record { place-is = refl; octets-are = ending; inside = omega arith };
+        claimed = tag;
+        laid-out = cc;
+      },
+    )
 
 pub returns : need.returns
 returns c =
     let xs = c .args .message .now in
     let open′ : protects (c .args .mode) ≡ false = sym (c .if-protects .ensures tt) in
     let o : Octets xs = all-from-getD (λ x. x < 256) xs 0 (λ i _. omega (arith, c .typed .message i)) in
-    rw open′ (omega arith, record {
-      header = record { place-is = refl; octets-are = refl; inside = omega arith };
-      payload = record { place-is = refl; octets-are = refl; inside = omega arith };
-      laid-out = open-laid xs o (omega arith);
-    })
+    rw open′ (
+      omega arith,
+      record {
+        header = record { place-is = refl; octets-are = refl; inside = omega arith };
+        payload = record { place-is = refl; octets-are = refl; inside = omega arith };
+        laid-out = open-laid xs o (omega arith);
+      },
+    )
