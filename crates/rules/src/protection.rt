@@ -53,32 +53,32 @@ impl LevelModes {
 const LEVELS: [LevelModes; 6] = [
     LevelModes {
         invoke: ProtectionMode::Integrity,
-        result: ProtectionMode::NoProtection,
+        result: ProtectionMode::NoProtection, // level 1
         error: ProtectionMode::NoProtection,
     },
     LevelModes {
         invoke: ProtectionMode::Integrity,
-        result: ProtectionMode::Integrity,
+        result: ProtectionMode::Integrity, // level 2
         error: ProtectionMode::NoProtection,
     },
     LevelModes {
         invoke: ProtectionMode::Integrity,
-        result: ProtectionMode::Confidentiality,
+        result: ProtectionMode::Confidentiality, // level 3
         error: ProtectionMode::NoProtection,
     },
     LevelModes {
         invoke: ProtectionMode::Confidentiality,
-        result: ProtectionMode::Integrity,
+        result: ProtectionMode::Integrity, // level 4
         error: ProtectionMode::NoProtection,
     },
     LevelModes {
         invoke: ProtectionMode::Confidentiality,
-        result: ProtectionMode::Confidentiality,
+        result: ProtectionMode::Confidentiality, // level 5
         error: ProtectionMode::NoProtection,
     },
     LevelModes {
         invoke: ProtectionMode::Confidentiality,
-        result: ProtectionMode::NoProtection,
+        result: ProtectionMode::NoProtection, // level 6
         error: ProtectionMode::NoProtection,
     },
 ];
