@@ -78,6 +78,7 @@ pub fn settle(declared: Declared) -> Result<Settings, Refusal> {
 }
 
 impl<'s, 'a> Site<'s, 'a> {
+    /// Whether a call has made it.
     pub fn is_made(&self) -> bool {
         self.gateway.is_some()
     }
@@ -106,6 +107,7 @@ impl<'s, 'a> Site<'s, 'a> {
 }
 
 impl<'s, 'a, 't, 'b> Sites<'s, 'a, 't, 'b> {
+    /// Whether a call has made the station.
     pub fn is_made(&self, name: Name) -> bool {
         match name {
             Name::A => self.a.is_made(),
@@ -113,6 +115,7 @@ impl<'s, 'a, 't, 'b> Sites<'s, 'a, 't, 'b> {
         }
     }
 
+    /// Makes a station as it is declared.
     pub fn make(&mut self, name: Name, declared: Declared) -> Result<(), Refusal> {
         match name {
             Name::A => self.a.make(declared),
