@@ -242,6 +242,16 @@ mod tests {
                 level: 6
             })))
         ))?;
+        check(matches!(
+            read("B admit 0x10 2"),
+            Ok(Some(Statement::Calls {
+                name: Name::B,
+                call: Call::Admit {
+                    network: 16,
+                    stance: 2
+                }
+            }))
+        ))?;
         check(matches!(read(" # nothing else"), Ok(None)))
     }
 
@@ -252,6 +262,12 @@ mod tests {
         check(matches!(
             read("station A own 1 back 3"),
             Err(Expected::Keyword(Keyword::Ne))
+        ))?;
+        check(matches!(read("A admits 1 2"), Err(Expected::Call)))?;
+        check(matches!(read("A install 1 2 3 4 1 abcd"), Err(Expected::Key)))?;
+        check(matches!(
+            read("A protect 1 2 1 2 - 65537"),
+            Err(Expected::Number { limit: 65536 })
         ))?;
         check(matches!(read("listed A 1 2 3"), Err(Expected::End)))
     }
