@@ -33,6 +33,34 @@ pub fn to_u48(octets: [u8; 6]) -> u64
     u64::from_be_bytes([0, 0, a, b, c, d, e, f])
 }
 
+// The eight octets of a number of 64 bits.
+pub fn of_u64(n: u64) -> [u8; 8]
+    ensures { λ r. ⌜ r ≡ octets-of 8 n ⌝ }
+{
+    n.to_be_bytes()
+}
+
+// The number that eight octets are.
+pub fn to_u64(octets: [u8; 8]) -> u64
+    ensures { λ r. ⌜ r ≡ number octets ⌝ }
+{
+    u64::from_be_bytes(octets)
+}
+
+// The sixteen octets of a number of 128 bits.
+pub fn of_u128(n: u128) -> [u8; 16]
+    ensures { λ r. ⌜ r ≡ octets-of 16 n ⌝ }
+{
+    n.to_be_bytes()
+}
+
+// The number that sixteen octets are.
+pub fn to_u128(octets: [u8; 16]) -> u128
+    ensures { λ r. ⌜ r ≡ number octets ⌝ }
+{
+    u128::from_be_bytes(octets)
+}
+
 // The theorem: octets and numbers of one width stand for each other.
 pub fn octets_and_numbers() -> u8
     ensures { λ _. ⌜ Octets-and-numbers ⌝ }
