@@ -1,6 +1,6 @@
 // Numbers as octets, most significant octet first: the one place where the order of octets is decided.
 ghost use mathlib.Core.Path.{_≡_};
-ghost use Prim.Native.Nat.{_%_, _^_};
+ghost use Prim.Native.Nat.{_^_};
 ghost use Rattle.octets.specs.Numbers.{octets-of, number, Octets-and-numbers};
 
 // The four octets of a number of 32 bits.

@@ -1,8 +1,6 @@
 // The layout of MAPsec messages. No other module knows where a field lies.
 ghost use mathlib.Core.Path.{_≡_};
-ghost use mathlib.Core.Bool.{cond};
 ghost use Prim.Native.Nat.{_+_, _≤_};
-ghost use lib.Dec.{ltb};
 ghost use lib.ListN.{length};
 ghost use Rattle.octets.specs.Numbers.{number};
 ghost use Rattle.rules.specs.Checks.{decided};

@@ -3,7 +3,7 @@ ghost use mathlib.Core.Path.{_≡_};
 ghost use Rattle.std.specs.Orderings.{Decides};
 ghost use Rattle.std.specs.Text.{Utf8};
 ghost use Rattle.std.specs.declared.result.Result.the-variants.{Err};
-ghost use Rattle.script.specs.Reading.{Complaint, told};
+ghost use Rattle.script.specs.Reading.{told};
 ghost use Rattle.script.specs.Statements.{subject, station, listed, profile, begun, statement};
 ghost use Rattle.script.specs.declared.fault.Expected.the-variants.{Text as NoText};
 use crate::fault::Expected;

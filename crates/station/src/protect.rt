@@ -1,14 +1,12 @@
 // Protect: from a component to the octets of a message.
 ghost use mathlib.Core.Path.{_≡_};
-ghost use mathlib.Core.List.{[], _∷_};
 ghost use mathlib.Core.Bool.{not};
 ghost use Prim.Native.Nat.{_≤_};
 ghost use lib.ListN.{length};
-ghost use Rattle.std.specs.Options.{isSome};
 ghost use Rattle.rules.specs.Checks.{decided};
 ghost use Rattle.rules.specs.declared.refusal.Refusal.the-variants.{NoPolicy};
 ghost use Rattle.station.specs.Forms.{form-checks};
-ghost use Rattle.station.specs.Protect.{Call, room-checks, protected-at as count-at, Sends, Protected};
+ghost use Rattle.station.specs.Protect.{room-checks, protected-at as count-at, Sends, Protected};
 ghost use Rattle.station.specs.Seal.{message-length as length-of};
 ghost use Rattle.station.specs.States.{contents-of};
 use crate::choice::choose;

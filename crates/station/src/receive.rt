@@ -2,7 +2,7 @@
 ghost use mathlib.Core.Path.{_≡_};
 ghost use mathlib.Core.Bool.{true};
 ghost use mathlib.Core.List.{_++_};
-ghost use Prim.Native.Nat.{_<_, _≤_};
+ghost use Prim.Native.Nat.{_<_};
 ghost use lib.ListN.{length, drop};
 ghost use Rattle.std.specs.Results.{isOk, isErr};
 ghost use Rattle.rules.specs.Checks.{decided};
@@ -10,7 +10,7 @@ ghost use Rattle.rules.specs.Layout.{header-in};
 ghost use Rattle.rules.specs.Window.{last-tick};
 ghost use Rattle.station.specs.Clock.{read-at};
 ghost use Rattle.station.specs.Forms.{association-or-blank};
-ghost use Rattle.station.specs.Receive.{from-network, association-of, entrance-checks, open-checks, fresh-checks, room-checks, heard-key, Hands-over, Received};
+ghost use Rattle.station.specs.Receive.{association-of, entrance-checks, open-checks, fresh-checks, room-checks, heard-key, Hands-over, Received};
 ghost use Rattle.station.specs.Plain.{Taken-plain};
 ghost use Rattle.station.specs.Slips.{refusal-number};
 ghost use Rattle.station.specs.States.{contents-of};

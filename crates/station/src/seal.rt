@@ -1,7 +1,6 @@
 // Writing the octets of a message.
 ghost use mathlib.Core.Path.{_≡_};
-ghost use mathlib.Core.List.{_++_};
-ghost use Prim.Native.Nat.{_+_, _≤_};
+ghost use Prim.Native.Nat.{_+_};
 ghost use lib.ListN.{length};
 ghost use Rattle.rules.specs.Layout.{open-message};
 ghost use Rattle.station.specs.Seal.{turned, sealed-under};
