@@ -27,9 +27,12 @@ use crate::slip::with_slip;
 use crate::station::Station;
 use banks::cipher::CipherBank;
 use banks::tag::TagBank;
+use rules::bounds::LONGEST_CLEARTEXT;
 use rules::component::ComponentId;
 use rules::message::IvFields;
 use rules::message::Message;
+use rules::message::OPEN_HEADER;
+use rules::message::SEALED_HEADER;
 use rules::message::SealedMessage;
 use rules::message::SecurityHeader;
 use rules::message::read;
@@ -133,8 +136,8 @@ impl Station {
         ensures { λ r. ⌜ r ≡ decided (open-checks (now (self .entry) .settings) component (now (payload .entry)) output) tt ⌝ }
     {
         let needed = payload.len();
-        if needed > 1024 {
-            return Err(Refusal::CleartextTooLong { place: 6 });
+        if needed > LONGEST_CLEARTEXT {
+            return Err(Refusal::CleartextTooLong { place: OPEN_HEADER });
         }
         if self.settings.lists(component) & !self.settings.fallback() {
             return Err(Refusal::ListedUnprotected { place: 4 });
@@ -219,8 +222,10 @@ impl Station {
     {
         let payload = message.payload.octets;
         let needed = payload.len();
-        if needed > 1024 {
-            return Err(Refusal::CleartextTooLong { place: 20 });
+        if needed > LONGEST_CLEARTEXT {
+            return Err(Refusal::CleartextTooLong {
+                place: SEALED_HEADER,
+            });
         }
         let last = self.fresh(registers, tags, reading, key, association, message)?;
         room(registers, reading, needed, output.len())?;

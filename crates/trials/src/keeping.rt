@@ -19,7 +19,10 @@ fn no_places(rt: LibcRuntime) -> Result<(), Fail> {
     let mut registers = Registers::new(&mut policies, &mut associations, &mut heard);
     check_eq(told(gateway.admit(&mut registers, OTHER, 2)), (35, 0))?;
     check_eq(told(gateway.admit(&mut registers, OTHER, 0)), (0, 0))?;
-    check_eq(told(gateway.install(&mut registers, 10, association(OWN, OTHER, 4, 20, 30))), (35, 0))?;
+    check_eq(
+        told(gateway.install(&mut registers, 10, association(OWN, OTHER, 4, 20, 30))),
+        (35, 0),
+    )?;
     check_eq(told(gateway.revoke(&mut registers, OTHER, 4)), (34, 0))
 }
 
@@ -42,7 +45,10 @@ fn policies_in_one_place(rt: LibcRuntime) -> Result<(), Fail> {
         (OTHER, 1, (0, 0)),
     ];
     for (network, stance, expected) in cases {
-        check_eq(told(gateway.admit(&mut registers, network, stance)), expected)?;
+        check_eq(
+            told(gateway.admit(&mut registers, network, stance)),
+            expected,
+        )?;
     }
     Ok(())
 }
@@ -66,19 +72,40 @@ fn fields_at_their_edges(rt: LibcRuntime) -> Result<(), Fail> {
         (10, association(OWN, OTHER, 1, 10, 11), (32, 3)),
         (10, association(OWN, 16_777_215, 1, 0, 11), (0, 0)),
         (11, association(OWN, 16_777_215, 1, 12, 12), (0, 0)),
-        (281_474_976_710_656, association(OWN, OTHER, 3, 0, 0), (14, 0)),
-        (281_474_976_710_655, association(OTHER, OWN, 3, 0, 281_474_976_710_656), (0, 0)),
-        (281_474_976_710_654, association(OWN, OTHER, 4, 0, 0), (14, 0)),
+        (
+            281_474_976_710_656,
+            association(OWN, OTHER, 3, 0, 0),
+            (14, 0),
+        ),
+        (
+            281_474_976_710_655,
+            association(OTHER, OWN, 3, 0, 281_474_976_710_656),
+            (0, 0),
+        ),
+        (
+            281_474_976_710_654,
+            association(OWN, OTHER, 4, 0, 0),
+            (14, 0),
+        ),
     ];
     for (reading, record, expected) in cases {
-        check_eq(told(gateway.install(&mut registers, reading, record)), expected)?;
+        check_eq(
+            told(gateway.install(&mut registers, reading, record)),
+            expected,
+        )?;
     }
     let mut unknown = association(OWN, OTHER, 5, 0, 281_474_976_710_657);
     unknown.mea = 2;
-    check_eq(told(gateway.install(&mut registers, 281_474_976_710_655, unknown)), (33, 4))?;
+    check_eq(
+        told(gateway.install(&mut registers, 281_474_976_710_655, unknown)),
+        (33, 4),
+    )?;
     unknown.mea = 0;
     unknown.mia = 0;
-    check_eq(told(gateway.install(&mut registers, 281_474_976_710_655, unknown)), (33, 6))
+    check_eq(
+        told(gateway.install(&mut registers, 281_474_976_710_655, unknown)),
+        (33, 6),
+    )
 }
 
 // One place for associations: it is free again once the record in it is past, or revoked.
@@ -89,14 +116,29 @@ fn associations_in_one_place(rt: LibcRuntime) -> Result<(), Fail> {
     let mut heard = [None];
     let mut gateway = gateway(rt.alloc())?;
     let mut registers = Registers::new(&mut policies, &mut associations, &mut heard);
-    check_eq(told(gateway.install(&mut registers, 10, association(OWN, OTHER, 4, 20, 30))), (0, 0))?;
-    check_eq(told(gateway.install(&mut registers, 29, association(OWN, OTHER, 5, 40, 50))), (35, 1))?;
-    check_eq(told(gateway.install(&mut registers, 29, association(OWN, OTHER, 4, 40, 50))), (32, 3))?;
-    check_eq(told(gateway.install(&mut registers, 30, association(OWN, OTHER, 5, 40, 50))), (0, 0))?;
+    check_eq(
+        told(gateway.install(&mut registers, 10, association(OWN, OTHER, 4, 20, 30))),
+        (0, 0),
+    )?;
+    check_eq(
+        told(gateway.install(&mut registers, 29, association(OWN, OTHER, 5, 40, 50))),
+        (35, 1),
+    )?;
+    check_eq(
+        told(gateway.install(&mut registers, 29, association(OWN, OTHER, 4, 40, 50))),
+        (32, 3),
+    )?;
+    check_eq(
+        told(gateway.install(&mut registers, 30, association(OWN, OTHER, 5, 40, 50))),
+        (0, 0),
+    )?;
     check_eq(told(gateway.revoke(&mut registers, OTHER, 4)), (34, 0))?;
     check_eq(told(gateway.revoke(&mut registers, OWN, 5)), (34, 0))?;
     check_eq(told(gateway.revoke(&mut registers, OTHER, 5)), (0, 0))?;
-    check_eq(told(gateway.install(&mut registers, 30, association(OWN, OTHER, 6, 40, 50))), (0, 0))
+    check_eq(
+        told(gateway.install(&mut registers, 30, association(OWN, OTHER, 6, 40, 50))),
+        (0, 0),
+    )
 }
 
 // More places than the bound: the 65th policy finds none.

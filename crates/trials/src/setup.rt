@@ -12,6 +12,7 @@ use std::test::*;
 
 // The own network of the trials, and the other one.
 pub const OWN: u32 = 1;
+
 pub const OTHER: u32 = 2;
 
 // A gateway of network 1: back 300, ahead 50, no fallback; PPI 7 gives code 37 level 1 and code 56 level 3.
@@ -21,8 +22,16 @@ pub fn gateway(heap: Global) -> Result<Gateway, Fail> {
     listed.push(ComponentId { kind: 1, code: 56 })?;
     listed.push(ComponentId { kind: 2, code: 56 })?;
     let mut profile = Vec::new(heap);
-    profile.push(ProfileLine { ppi: 7, code: 37, level: 1 })?;
-    profile.push(ProfileLine { ppi: 7, code: 56, level: 3 })?;
+    profile.push(ProfileLine {
+        ppi: 7,
+        code: 37,
+        level: 1,
+    })?;
+    profile.push(ProfileLine {
+        ppi: 7,
+        code: 56,
+        level: 3,
+    })?;
     match Settings::new(OWN, 0x123456789012, 300, 50, false, listed, profile) {
         Ok(settings) => Ok(Gateway::new(settings)),
         Err(_) => Err(Fail::new("the settings of the trials are right")),
@@ -30,9 +39,29 @@ pub fn gateway(heap: Global) -> Result<Gateway, Fail> {
 }
 
 // An association of MEA 1 and MIA 1.
-pub fn association(sender: u32, destination: u32, spi: u32, soft: u64, hard: u64) -> SecurityAssociation {
-    let key = Key { high: 0x0011223344556677, low: 0x8899aabbccddeeff };
-    SecurityAssociation { sender, destination, spi, mea: 1, cipher_key: key, mia: 1, integrity_key: key, ppi: 7, soft, hard }
+pub fn association(
+    sender: u32,
+    destination: u32,
+    spi: u32,
+    soft: u64,
+    hard: u64,
+) -> SecurityAssociation {
+    let key = Key {
+        high: 0x0011223344556677,
+        low: 0x8899aabbccddeeff,
+    };
+    SecurityAssociation {
+        sender,
+        destination,
+        spi,
+        mea: 1,
+        cipher_key: key,
+        mia: 1,
+        integrity_key: key,
+        ppi: 7,
+        soft,
+        hard,
+    }
 }
 
 // The number and the place of a refusal, zeros where there is none.
