@@ -1,4 +1,4 @@
--- What a statement does to the declaration of its station.
+-- What a declaration does to the plan of its station.
 use mathlib.Core.Path.{_≡_}
 use mathlib.Core.Bool.{Bool, true, false}
 use mathlib.Core.List.{List, [], _∷_, _++_}
@@ -18,8 +18,8 @@ use Rattle.rules.specs.declared.profile.ProfileLine.{ProfileLine}
 use Rattle.script.specs.declared.statement.Name.{Name}
 use Rattle.script.specs.declared.statement.Name.the-variants as names
 use Rattle.script.specs.declared.statement.Places.{Places}
-use Rattle.script.specs.declared.statement.Statement.{Statement}
-use Rattle.script.specs.declared.statement.Statement.the-variants.{Station, Listed, Profile}
+use Rattle.script.specs.declared.statement.Declaration.{Declaration}
+use Rattle.script.specs.declared.statement.Declaration.the-variants.{Station, Listed, Profile}
 
 -- what is declared of a station
 pub record Plan : Type 0 where
@@ -49,8 +49,8 @@ plan d =
 abbrev pub planned : Option Declared → Option Plan
 planned d = mapped plan d
 
--- the plan with a statement: a station is declared once, and first
-abbrev pub entered : Statement → Option Plan → Result Plan DeskFault
+-- the plan with a declaration: a station is declared once, and first
+abbrev pub entered : Declaration → Option Plan → Result Plan DeskFault
 entered (Station name own ne back ahead fallback places) None =
     Ok (record { own = own; ne = ne; back = back; ahead = ahead; fallback = fallback; places = places; listed = []; profile = [] })
 entered (Station name own ne back ahead fallback places) (Some p) = Err (DeclaredTwice name)
@@ -61,14 +61,19 @@ entered (Profile name ppi code level) None = Err (NotDeclared name)
 entered (Profile name ppi code level) (Some p) =
     Ok (record { own = p .own; ne = p .ne; back = p .back; ahead = p .ahead; fallback = p .fallback; places = p .places; listed = p .listed; profile = p .profile ++ record { ppi = ppi; code = code; level = level } ∷ [] })
 
--- a statement changes one declaration as it says, or is refused and changes nothing; memory may be short
-abbrev pub Enters : Statement → Option Plan → Option Plan → Result (Unit {0}) DeskFault → Type 0
+-- a declaration changes one plan as it says, or is refused and changes nothing; memory may be short
+abbrev pub Enters : Declaration → Option Plan → Option Plan → Result (Unit {0}) DeskFault → Type 0
 Enters s before after (Ok done) = (p : Plan) × (entered s before ≡ Ok p) × (after ≡ Some p)
 Enters s before after (Err NoMemory) = after ≡ before
 Enters s before after (Err (DeclaredTwice name)) = (entered s before ≡ Err (DeclaredTwice name)) × (after ≡ before)
 Enters s before after (Err (NotDeclared name)) = (entered s before ≡ Err (NotDeclared name)) × (after ≡ before)
 
 -- and leaves the other station's alone
-abbrev pub EntersDesk : Name → Statement → Desk → Desk → Result (Unit {0}) DeskFault → Type 0
+abbrev pub EntersDesk : Name → Declaration → Desk → Desk → Result (Unit {0}) DeskFault → Type 0
 EntersDesk names.A s d e r = Enters s (planned (d .a)) (planned (e .a)) r × (e .b ≡ d .b)
 EntersDesk names.B s d e r = Enters s (planned (d .b)) (planned (e .b)) r × (e .a ≡ d .a)
+
+-- what is declared of a station is taken away, and the other station's stays
+abbrev pub Taken : Name → Desk → Desk → Option Declared → Type 0
+Taken names.A d e r = (r ≡ d .a) × (e .a ≡ None) × (e .b ≡ d .b)
+Taken names.B d e r = (r ≡ d .b) × (e .b ≡ None) × (e .a ≡ d .a)

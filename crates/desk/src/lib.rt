@@ -1,14 +1,14 @@
-// Keeping what the statements declare of the two stations.
+// Keeping what the declarations say of the two stations.
 ghost use mathlib.Core.Path.{_≡_};
 ghost use Rattle.std.specs.declared.option.Option.the-variants.{None};
-ghost use Rattle.desk.specs.Desk.{planned, Enters, EntersDesk};
+ghost use Rattle.desk.specs.Desk.{planned, Enters, EntersDesk, Taken};
 ghost use Rattle.script.specs.Statements.{subject};
 use rules::component::ComponentId;
 use rules::profile::ProfileLine;
+use script::statement::Declaration;
 use script::statement::Name;
 use script::statement::NameDisplay;
 use script::statement::Places;
-use script::statement::Statement;
 use std::alloc::Global;
 use std::fmt;
 
@@ -25,7 +25,7 @@ pub struct Declared {
     pub profile: Vec<ProfileLine>,
 }
 
-/// Why a statement cannot be entered.
+/// Why a declaration cannot be entered.
 #[derive(Clone, Copy)]
 pub enum DeskFault {
     DeclaredTwice(Name),
@@ -40,16 +40,16 @@ pub struct Desk {
     pub b: Option<Declared>,
 }
 
-/// Enters a statement into the declaration of its station.
+/// Enters a declaration into what is declared of its station.
 fn enter(
     heap: Global,
     declared: &mut Option<Declared>,
-    statement: Statement,
+    declaration: Declaration,
 ) -> Result<(), DeskFault>
-    ensures { λ r. ⌜ Enters statement (planned (now (declared .entry))) (planned (now (declared .exit))) r ⌝ }
+    ensures { λ r. ⌜ Enters declaration (planned (now (declared .entry))) (planned (now (declared .exit))) r ⌝ }
 {
-    match statement {
-        Statement::Station {
+    match declaration {
+        Declaration::Station {
             name,
             own,
             ne_id,
@@ -75,8 +75,12 @@ fn enter(
             });
             Ok(())
         }
-        Statement::Listed { name, kind, code } => list(declared, name, ComponentId { kind, code }),
-        Statement::Profile {
+        Declaration::Listed { name, kind, code } => list(
+            declared,
+            name,
+            ComponentId { kind, code },
+        ),
+        Declaration::Profile {
             name,
             ppi,
             code,
@@ -91,7 +95,7 @@ fn list(
     name: Name,
     component: ComponentId,
 ) -> Result<(), DeskFault>
-    ensures { λ r. ⌜ Enters (Statement.Listed name (component .kind) (component .code)) (planned (now (declared .entry))) (planned (now (declared .exit))) r ⌝ }
+    ensures { λ r. ⌜ Enters (Declaration.Listed name (component .kind) (component .code)) (planned (now (declared .entry))) (planned (now (declared .exit))) r ⌝ }
 {
     match declared {
         Some(station) => match station.listed.push(component) {
@@ -104,7 +108,7 @@ fn list(
 
 /// Adds a profile line.
 fn add_line(declared: &mut Option<Declared>, name: Name, line: ProfileLine) -> Result<(), DeskFault>
-    ensures { λ r. ⌜ Enters (Statement.Profile name (line .ppi) (line .code) (line .level)) (planned (now (declared .entry))) (planned (now (declared .exit))) r ⌝ }
+    ensures { λ r. ⌜ Enters (Declaration.Profile name (line .ppi) (line .code) (line .level)) (planned (now (declared .entry))) (planned (now (declared .exit))) r ⌝ }
 {
     match declared {
         Some(station) => match station.profile.push(line) {
@@ -124,13 +128,23 @@ impl Desk {
         Desk { a: None, b: None }
     }
 
-    /// Enters a statement; one that is refused changes nothing.
-    pub fn enter(&mut self, heap: Global, statement: Statement) -> Result<(), DeskFault>
-        ensures { λ r. ⌜ EntersDesk (subject statement) statement (now (self .entry)) (now (self .exit)) r ⌝ }
+    /// Enters a declaration; one that is refused changes nothing.
+    pub fn enter(&mut self, heap: Global, declaration: Declaration) -> Result<(), DeskFault>
+        ensures { λ r. ⌜ EntersDesk (subject declaration) declaration (now (self .entry)) (now (self .exit)) r ⌝ }
     {
-        match statement.name() {
-            Name::A => enter(heap, &mut self.a, statement),
-            Name::B => enter(heap, &mut self.b, statement),
+        match declaration.name() {
+            Name::A => enter(heap, &mut self.a, declaration),
+            Name::B => enter(heap, &mut self.b, declaration),
+        }
+    }
+
+    /// Takes what is declared of a station away.
+    pub fn take(&mut self, name: Name) -> Option<Declared>
+        ensures { λ r. ⌜ Taken name (now (self .entry)) (now (self .exit)) r ⌝ }
+    {
+        match name {
+            Name::A => self.a.take(),
+            Name::B => self.b.take(),
         }
     }
 }

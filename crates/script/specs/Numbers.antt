@@ -4,11 +4,12 @@ use mathlib.Core.List.{List, [], _∷_}
 use Prim.Native.Nat.{ℕ, _+_, _*_, _^_, _%_}
 use lib.Chars.{codes}
 use lib.Dec.{eqb, leb, ltb}
-use lib.ListN.{length, getD, drop}
+use lib.ListN.{length, getD, take, drop}
 use Rattle.std.specs.declared.option.Option.{Option}
 use Rattle.std.specs.declared.option.Option.the-variants.{Some, None}
 use Rattle.std.specs.Text.{digitValue}
 use Rattle.std.specs.shelf.Text.{sameBytes}
+use Rattle.script.specs.declared.numbers.WrittenKey.{WrittenKey}
 
 -- every octet is a digit of the base
 abbrev pub digits : ℕ → List ℕ → Bool
@@ -32,6 +33,17 @@ hexadecimal w = eqb (getD w 0 0) 48 && eqb (getD w 1 0) 120
 -- the number of at most `limit` that a word stands for
 unfoldable pub number : ℕ → List ℕ → Option ℕ
 number limit w = cond (hexadecimal w) (numeral 16 limit (drop 2 w)) (numeral 10 limit w)
+
+-- a key of two halves, where there are both
+abbrev pub joined : Option ℕ → Option ℕ → Option WrittenKey
+joined (Some h) (Some l) = Some (record { high = h; low = l })
+joined (Some h) None = None
+joined None low = None
+
+-- the key that 32 hexadecimal digits stand for, eight octets to each half
+unfoldable pub key : List ℕ → Option WrittenKey
+key w =
+    cond (eqb (length w) 32) (joined (numeral 16 18446744073709551615 (take 16 w)) (numeral 16 18446744073709551615 (drop 16 w))) None
 
 -- an octet for each two digits
 abbrev pub pairs : List ℕ → List ℕ

@@ -10,13 +10,14 @@ use Rattle.std.specs.declared.option.Option.the-variants.{Some, None}
 use Rattle.std.specs.declared.result.Result.{Result}
 use Rattle.std.specs.declared.result.Result.the-variants.{Ok, Err}
 use Rattle.std.specs.shelf.Text.{sameBytes}
-use Rattle.script.specs.Numbers.{number}
+use Rattle.script.specs.Numbers.{number, key}
 use Rattle.script.specs.Words.{word, after}
 use Rattle.script.specs.declared.fault.Expected.{Expected}
 use Rattle.script.specs.declared.fault.Expected.the-variants as expected
 use Rattle.script.specs.declared.fault.Fault.{Fault}
 use Rattle.script.specs.declared.fault.Keyword.{Keyword}
 use Rattle.script.specs.declared.fault.Keyword.the-variants.{Own, Ne, Back, Ahead, Fallback}
+use Rattle.script.specs.declared.numbers.WrittenKey.{WrittenKey}
 use Rattle.script.specs.declared.statement.Name.{Name}
 use Rattle.script.specs.declared.statement.Name.the-variants as names
 use Rattle.script.specs.declared.statement.Places.{Places}
@@ -71,6 +72,10 @@ nameIn line = required (name (word line)) (word line) expected.StationName
 -- as a number of at most `limit`
 unfoldable pub numberIn : ℕ → List ℕ → Result ℕ Complaint
 numberIn limit line = required (number limit (word line)) (word line) (expected.Number limit)
+
+-- as a key
+unfoldable pub keyIn : List ℕ → Result WrittenKey Complaint
+keyIn line = required (key (word line)) (word line) expected.Key
 
 -- as yes or no
 unfoldable pub flagIn : List ℕ → Result Bool Complaint

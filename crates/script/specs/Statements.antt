@@ -1,31 +1,29 @@
 -- The statements, each by the words that it is made of.
 use mathlib.Core.Bool.{Bool, true, false, cond}
 use mathlib.Core.List.{List, [], _∷_}
-use Prim.Native.Nat.{ℕ, suc, zero}
+use Prim.Native.Nat.{ℕ}
 use lib.Chars.{codes}
 use Rattle.std.specs.declared.option.Option.{Option}
 use Rattle.std.specs.declared.option.Option.the-variants.{Some, None}
 use Rattle.std.specs.shelf.Text.{sameBytes}
 use Rattle.std.specs.declared.result.Result.{Result}
 use Rattle.std.specs.declared.result.Result.the-variants.{Ok, Err}
-use Rattle.script.specs.Words.{word, after}
-use Rattle.script.specs.Reading.{Complaint, next, nameIn, numberIn, fieldIn, switchIn, placesIn, endIn, ended}
+use Rattle.script.specs.Calls.{called-by}
+use Rattle.script.specs.Words.{word, after, from}
+use Rattle.script.specs.Reading.{Complaint, required, next, name, nameIn, numberIn, fieldIn, switchIn, placesIn, endIn, ended}
 use Rattle.script.specs.declared.fault.Expected.the-variants as expected
 use Rattle.script.specs.declared.fault.Keyword.the-variants.{Own, Ne, Back, Ahead, Fallback}
 use Rattle.script.specs.declared.statement.Name.{Name}
+use Rattle.script.specs.declared.statement.Declaration.{Declaration}
+use Rattle.script.specs.declared.statement.Declaration.the-variants.{Station, Listed, Profile}
 use Rattle.script.specs.declared.statement.Statement.{Statement}
-use Rattle.script.specs.declared.statement.Statement.the-variants.{Station, Listed, Profile}
+use Rattle.script.specs.declared.statement.Statement.the-variants.{Declares, Calls}
 
--- the station that a statement speaks of
-abbrev pub subject : Statement → Name
+-- the station that a declaration speaks of
+abbrev pub subject : Declaration → Name
 subject (Station name own ne back ahead fallback places) = name
 subject (Listed name kind code) = name
 subject (Profile name ppi code level) = name
-
--- a line without its first n words
-abbrev pub from : ℕ → List ℕ → List ℕ
-from zero line = line
-from (suc n) line = after (from n line)
 
 -- NAME own N ne N back N ahead N fallback yes|no [places N N N]
 unfoldable pub station : List ℕ → Result Statement Complaint
@@ -37,7 +35,7 @@ station line =
     next (fieldIn Ahead 18446744073709551615 (from 7 line)) λ ahead.
     next (switchIn Fallback (from 9 line)) λ fallback.
     next (placesIn (from 11 line)) λ places.
-    Ok (Station name own ne back ahead fallback places)
+    Ok (Declares (Station name own ne back ahead fallback places))
 
 -- NAME KIND CODE
 unfoldable pub listed : List ℕ → Result Statement Complaint
@@ -46,7 +44,7 @@ listed line =
     next (numberIn 255 (from 1 line)) λ kind.
     next (numberIn 255 (from 2 line)) λ code.
     next (endIn (from 3 line)) λ _.
-    Ok (Listed name kind code)
+    Ok (Declares (Listed name kind code))
 
 -- NAME PPI CODE LEVEL
 unfoldable pub profile : List ℕ → Result Statement Complaint
@@ -56,7 +54,14 @@ profile line =
     next (numberIn 255 (from 2 line)) λ code.
     next (numberIn 255 (from 3 line)) λ level.
     next (endIn (from 4 line)) λ _.
-    Ok (Profile name ppi code level)
+    Ok (Declares (Profile name ppi code level))
+
+-- a call at the station that a first word names
+unfoldable pub called : List ℕ → List ℕ → Result Statement Complaint
+called w rest =
+    next (required (name w) w expected.Statement) λ n.
+    next (called-by rest) λ call.
+    Ok (Calls n call)
 
 -- the statement that a first word begins, read from the words after it
 unfoldable pub begun : List ℕ → List ℕ → Result Statement Complaint
@@ -64,7 +69,7 @@ begun w rest =
     cond (sameBytes w (codes "station")) (station rest)
     (cond (sameBytes w (codes "listed")) (listed rest)
     (cond (sameBytes w (codes "profile")) (profile rest)
-    (Err (w, expected.Statement))))
+    (called w rest)))
 
 -- the statement of a line of text; none, where the line has no word
 unfoldable pub statement : List ℕ → Result (Option Statement) Complaint

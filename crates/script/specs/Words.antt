@@ -2,7 +2,7 @@
 -- ends the line, and inside a word it is an octet like any other.
 use mathlib.Core.Bool.{Bool, cond, _||_}
 use mathlib.Core.List.{List, [], _∷_}
-use Prim.Native.Nat.{ℕ}
+use Prim.Native.Nat.{ℕ, suc, zero}
 use lib.Dec.{eqb}
 
 -- a blank: a space or a tab
@@ -36,3 +36,8 @@ word line = run (uncommented (unblanked line))
 -- what stands after the next word
 unfoldable pub after : List ℕ → List ℕ
 after line = past (uncommented (unblanked line))
+
+-- a line without its first n words
+abbrev pub from : ℕ → List ℕ → List ℕ
+from zero line = line
+from (suc n) line = after (from n line)

@@ -39,6 +39,12 @@ pub enum Expected {
     Keyword(Keyword),
     /// A number of at most `limit`.
     Number { limit: u64 },
+    /// The word that a call begins with.
+    Call,
+    /// 32 hexadecimal digits.
+    Key,
+    /// Pairs of hexadecimal digits, or `-`.
+    Octets,
     YesOrNo,
     PlacesOrEnd,
     End,
@@ -80,13 +86,16 @@ pub impl fmt::Display for Expected as ExpectedDisplay {
     fn fmt<W: fmt::Write>(&self, f: &mut fmt::Formatter<W>) -> fmt::Result {
         match *self {
             Expected::Text => write!(f, "text in UTF-8"),
-            Expected::Statement => write!(f, "station, listed or profile"),
+            Expected::Statement => write!(f, "station, listed, profile, A or B"),
             Expected::StationName => write!(f, "A or B"),
             Expected::Keyword(keyword) => {
                 let text = keyword.text();
                 write!(f, "'{text}'")
             }
             Expected::Number { limit } => write!(f, "a number up to {limit}, decimal or 0x.."),
+            Expected::Call => write!(f, "admit, install, revoke or protect"),
+            Expected::Key => write!(f, "a key of 32 hexadecimal digits"),
+            Expected::Octets => write!(f, "octets: pairs of hexadecimal digits, or -"),
             Expected::YesOrNo => write!(f, "yes or no"),
             Expected::PlacesOrEnd => write!(f, "'places' or nothing more"),
             Expected::End => write!(f, "nothing more"),

@@ -1,4 +1,5 @@
 // The command language of the gateway: lines of words, read into statements.
+pub mod calls;
 pub mod fault;
 pub mod numbers;
 pub mod statement;

@@ -8,7 +8,7 @@ ghost use Rattle.std.specs.Of.Vec.{vec-items};
 ghost use Rattle.std.specs.Vec.{made};
 ghost use Rattle.std.specs.Written.{decimal};
 ghost use Rattle.std.specs.declared.option.Option.the-variants.{Some};
-ghost use Rattle.script.specs.Numbers.{numeral, number, octets};
+ghost use Rattle.script.specs.Numbers.{numeral, number, joined, key, octets};
 use crate::words::is;
 use std::alloc::AllocError;
 use std::alloc::Global;
@@ -45,6 +45,35 @@ pub fn number(word: &[u8], limit: u64) -> Option<u64>
     } else {
         numeral(word, 10, limit)
     }
+}
+
+/// A key of sixteen octets: its first eight as one number, and its last eight.
+#[derive(Clone, Copy)]
+pub struct WrittenKey {
+    pub high: u64,
+    pub low: u64,
+}
+
+/// The key of two halves, where there are both.
+fn joined(high: Option<u64>, low: Option<u64>) -> Option<WrittenKey>
+    ensures { λ r. ⌜ r ≡ joined high low ⌝ }
+{
+    match (high, low) {
+        (Some(high), Some(low)) => Some(WrittenKey { high, low }),
+        _ => None,
+    }
+}
+
+/// The key that a word of 32 hexadecimal digits stands for.
+pub fn key(word: &[u8]) -> Option<WrittenKey>
+    ensures { λ r. ⌜ r ≡ key (now (word .entry)) ⌝ }
+{
+    if word.len() != 32 {
+        return None;
+    }
+    let high = numeral(&word[0..16], 16, u64::MAX);
+    let low = numeral(&word[16..], 16, u64::MAX);
+    joined(high, low)
 }
 
 /// What a hexadecimal digit stands for.

@@ -3,14 +3,18 @@ ghost use mathlib.Core.Path.{_≡_};
 ghost use Rattle.std.specs.Orderings.{Decides};
 ghost use Rattle.std.specs.Text.{Utf8};
 ghost use Rattle.std.specs.declared.result.Result.the-variants.{Err};
-ghost use Rattle.script.specs.Reading.{told};
-ghost use Rattle.script.specs.Statements.{subject, station, listed, profile, begun, statement};
+ghost use Rattle.script.specs.Reading.{Complaint, told};
+ghost use Rattle.script.specs.Statements.{subject, station, listed, profile, called, begun, statement};
 ghost use Rattle.script.specs.declared.fault.Expected.the-variants.{Text as NoText};
+use crate::calls::Call;
+use crate::calls::read_call;
 use crate::fault::Expected;
 use crate::fault::Fault;
 use crate::fault::Keyword;
 use crate::words::Words;
 use crate::words::is;
+use crate::words::require;
+use crate::words::station_name;
 use std::fmt;
 
 /// One of the two stations of a run.
@@ -28,9 +32,9 @@ pub struct Places {
     pub heard: u64,
 }
 
-/// A statement that declares something of a station.
+/// What is declared of a station.
 #[derive(Clone, Copy)]
-pub enum Statement {
+pub enum Declaration {
     Station {
         name: Name,
         own: u32,
@@ -53,15 +57,22 @@ pub enum Statement {
     },
 }
 
-impl Statement {
-    /// The station that a statement speaks of.
+/// A statement: something is declared of a station, or the station is called.
+#[derive(Clone, Copy)]
+pub enum Statement {
+    Declares(Declaration),
+    Calls { name: Name, call: Call },
+}
+
+impl Declaration {
+    /// The station that a declaration speaks of.
     pub fn name(self) -> Name
         ensures { λ r. ⌜ r ≡ subject self ⌝ }
     {
         match self {
-            Statement::Station { name, .. } => name,
-            Statement::Listed { name, .. } => name,
-            Statement::Profile { name, .. } => name,
+            Declaration::Station { name, .. } => name,
+            Declaration::Listed { name, .. } => name,
+            Declaration::Profile { name, .. } => name,
         }
     }
 }
@@ -86,7 +97,7 @@ fn station<'a>(words: &mut Words<'a>) -> Result<Statement, Fault<'a>>
     let ahead = words.field(Keyword::Ahead, u64::MAX)?;
     let fallback = words.switch(Keyword::Fallback)?;
     let places = words.places()?;
-    Ok(Statement::Station {
+    Ok(Statement::Declares(Declaration::Station {
         name,
         own: own as u32,
         ne_id,
@@ -94,7 +105,7 @@ fn station<'a>(words: &mut Words<'a>) -> Result<Statement, Fault<'a>>
         ahead,
         fallback,
         places,
-    })
+    }))
 }
 
 /// `listed NAME KIND CODE`, from its name on.
@@ -105,11 +116,11 @@ fn listed<'a>(words: &mut Words<'a>) -> Result<Statement, Fault<'a>>
     let kind = words.number(u8::MAX as u64)?;
     let code = words.number(u8::MAX as u64)?;
     words.end()?;
-    Ok(Statement::Listed {
+    Ok(Statement::Declares(Declaration::Listed {
         name,
         kind: kind as u8,
         code: code as u8,
-    })
+    }))
 }
 
 /// `profile NAME PPI CODE LEVEL`, from its name on.
@@ -121,12 +132,21 @@ fn profile<'a>(words: &mut Words<'a>) -> Result<Statement, Fault<'a>>
     let code = words.number(u8::MAX as u64)?;
     let level = words.number(u8::MAX as u64)?;
     words.end()?;
-    Ok(Statement::Profile {
+    Ok(Statement::Declares(Declaration::Profile {
         name,
         ppi: ppi as u16,
         code: code as u8,
         level: level as u8,
-    })
+    }))
+}
+
+/// The call at the station that a first word names.
+fn called<'a>(word: &'a [u8], words: &mut Words<'a>) -> Result<Statement, Fault<'a>>
+    ensures { λ r. ⌜ told r ≡ called (now (word .entry)) (now (now (words .entry) .rest)) ⌝ }
+{
+    let name = require(word, station_name(word), Expected::Statement)?;
+    let call = read_call(words)?;
+    Ok(Statement::Calls { name, call })
 }
 
 /// The statement that a first word begins.
@@ -140,10 +160,7 @@ fn begun<'a>(word: &'a [u8], words: &mut Words<'a>) -> Result<Statement, Fault<'
     } else if is(word, b"profile") {
         profile(words)
     } else {
-        Err(Fault {
-            found: word,
-            expected: Expected::Statement,
-        })
+        called(word, words)
     }
 }
 
@@ -194,7 +211,7 @@ mod tests {
     fn statements_are_read() -> Result<(), Fail> {
         check(matches!(
             read("station B own 0xff ne 007 back 6000 ahead 600 fallback yes # both"),
-            Ok(Some(Statement::Station {
+            Ok(Some(Statement::Declares(Declaration::Station {
                 name: Name::B,
                 own: 255,
                 ne_id: 7,
@@ -206,24 +223,24 @@ mod tests {
                     associations: 256,
                     heard: 4096
                 }
-            }))
+            })))
         ))?;
         check(matches!(
             read("\t listed A 1 2"),
-            Ok(Some(Statement::Listed {
+            Ok(Some(Statement::Declares(Declaration::Listed {
                 name: Name::A,
                 kind: 1,
                 code: 2
-            }))
+            })))
         ))?;
         check(matches!(
             read("profile A 1 2 6"),
-            Ok(Some(Statement::Profile {
+            Ok(Some(Statement::Declares(Declaration::Profile {
                 name: Name::A,
                 ppi: 1,
                 code: 2,
                 level: 6
-            }))
+            })))
         ))?;
         check(matches!(read(" # nothing else"), Ok(None)))
     }

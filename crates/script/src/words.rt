@@ -4,11 +4,13 @@ ghost use Prim.Native.Nat.{_≤_};
 ghost use lib.ListN.{length, take, drop};
 ghost use Rattle.std.specs.Vec.{made};
 ghost use Rattle.std.specs.shelf.Text.{sameBytes};
-ghost use Rattle.script.specs.Reading.{told, required, name as nameOf, flag as flagOf, nameIn, numberIn, flagIn, keywordIn, endIn, fieldIn, switchIn, threePlaces, placesIn};
+ghost use Rattle.script.specs.Reading.{told, required, name as nameOf, flag as flagOf, nameIn, numberIn, keyIn, flagIn, keywordIn, endIn, fieldIn, switchIn, threePlaces, placesIn};
 ghost use Rattle.script.specs.Words.{blank, unblanked, uncommented, run, past, word, after};
 use crate::fault::Expected;
 use crate::fault::Fault;
 use crate::fault::Keyword;
+use crate::numbers::WrittenKey;
+use crate::numbers::key;
 use crate::numbers::number;
 use crate::statement::Name;
 use crate::statement::Places;
@@ -96,6 +98,15 @@ impl<'a> Words<'a> {
     {
         let word = self.next();
         require(word, number(word, limit), Expected::Number { limit })
+    }
+
+    /// The next word as a key.
+    pub fn key(&mut self) -> Result<WrittenKey, Fault<'a>>
+        ensures value { λ r. ⌜ told r ≡ keyIn (now (now (self .entry) .rest)) ⌝ }
+        ensures rest { λ _. ⌜ now (now (self .exit) .rest) ≡ after (now (now (self .entry) .rest)) ⌝ }
+    {
+        let word = self.next();
+        require(word, key(word), Expected::Key)
     }
 
     /// The next word as `yes` or `no`.
@@ -202,7 +213,7 @@ pub fn is(word: &[u8], text: &[u8]) -> bool
 }
 
 /// The station that a word names.
-fn station_name(word: &[u8]) -> Option<Name>
+pub fn station_name(word: &[u8]) -> Option<Name>
     ensures { λ r. ⌜ r ≡ nameOf (now (word .entry)) ⌝ }
 {
     if is(word, b"A") {
@@ -215,7 +226,7 @@ fn station_name(word: &[u8]) -> Option<Name>
 }
 
 /// What a word stands for, or the fault that it does not.
-fn require<'a, T: Drop>(
+pub fn require<'a, T: Drop>(
     found: &'a [u8],
     value: Option<T>,
     expected: Expected,
