@@ -8,11 +8,11 @@ use native.Mathlib.Omega.{arith}
 use lib.Bits.{bitXor, xor-lt}
 use lib.Dec.{eqb, ltb, ltb→lt}
 use lib.ListN.{length, getD}
+use Rattle.octets.specs.Numbers.{Octets}
 use Rattle.aes.specs.declared.state.Row.{Row}
 use Rattle.aes.specs.Cipher.{schedule, last-round, cipher, aes128}
 use Rattle.aes.specs.Field.{xtime, times-bits, times, power}
 use Rattle.aes.specs.Keys.{rot-word, sub-word, add-word, rcon, temp, word}
-use Rattle.aes.specs.Octets.{Octets}
 use Rattle.aes.specs.Sbox.{affine-bit, affine-bits, affine, inverse, sbox}
 use Rattle.aes.specs.State.{Word, row, word-at, columns, octets-of}
 use Rattle.aes.proofs.Tests.{below}

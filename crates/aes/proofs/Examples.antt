@@ -3,12 +3,12 @@
 use mathlib.Core.List.{List, [], _∷_}
 use mathlib.Core.Path.{_≡_, refl, sym, ap}
 use Prim.Native.Nat.{ℕ, zero, suc}
+use Rattle.octets.specs.Numbers.{octets-of}
 use Rattle.aes.specs.declared.state.Row.{Row}
 use Rattle.aes.specs.Cipher.{schedule, round, last-round, rounds, cipher, aes128}
 use Rattle.aes.specs.Examples.{Examples, key}
 use Rattle.aes.specs.Field.{xtime, times-bits, times, power}
 use Rattle.aes.specs.Keys.{add-word, temp, word}
-use Rattle.aes.specs.Octets.{octets}
 use Rattle.aes.specs.Sbox.{bit, affine-bit, affine-bits, affine, inverse, sbox}
 use Rattle.aes.specs.State.{Word, mixed, word-at, columns}
 
@@ -61,7 +61,7 @@ unfolding aes128
 block-is k b = ap (λ (keys : List (List Row)). cipher keys b) (shared-is k)
 
 pub examples : Examples
-unfolding octets four next shared turned cipher rounds round last-round mixed temp sbox affine affine-bits affine-bit bit inverse power times times-bits xtime
+unfolding octets-of four next shared turned cipher rounds round last-round mixed temp sbox affine affine-bits affine-bit bit inverse power times times-bits xtime
 examples =
     record {
       w4 = first key 4;

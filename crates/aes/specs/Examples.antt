@@ -3,16 +3,16 @@
 use mathlib.Core.List.{List}
 use mathlib.Core.Path.{_≡_}
 use Prim.Native.Nat.{ℕ}
+use Rattle.octets.specs.Numbers.{octets-of}
 use Rattle.aes.specs.Cipher.{aes128}
 use Rattle.aes.specs.Keys.{word}
-use Rattle.aes.specs.Octets.{octets}
 use Rattle.aes.specs.State.{Word, word-at}
 
 abbrev block : ℕ → List ℕ
-block n = octets 16 n
+block n = octets-of 16 n
 
 abbrev the-word : ℕ → Word
-the-word n = word-at (octets 4 n) 0
+the-word n = word-at (octets-of 4 n) 0
 
 abbrev pub key : List ℕ
 key = block 0x2b7e151628aed2a6abf7158809cf4f3c

@@ -1,4 +1,3 @@
-pub mod Octets
 pub mod Field
 pub mod Sbox
 pub mod State

@@ -27,14 +27,14 @@ use Rattle.std.proofs.shelf.Lists.{
 }
 use Rattle.std.proofs.shelf.Tests.{ne-eqb}
 use Rattle.std.specs.Iters.{folded}
+use Rattle.octets.specs.Numbers.{Octets, number}
+use Rattle.octets.proofs.Widths.{number-fits}
 use Rattle.aes.proofs.Bounds.{length-aes128}
 use Rattle.aes.specs.Cipher.{schedule, cipher, aes128}
 use Rattle.aes.specs.declared.state.Row.{Row}
-use Rattle.aes.specs.Octets.{Octets, number}
 use Rattle.banks.specs.declared.mac.Chain.{Chain}
 use Rattle.banks.specs.Mia1.{Padding, padded, mac-blocks, blocks, xor-blocks, chain, mac}
 use Rattle.banks.specs.Running.{added, absorbed}
-use Rattle.banks.proofs.Numbers.{number-small}
 
 abbrev pub at : List ℕ → ℕ → Chain
 at s u = record { value = s; filled = u }
@@ -240,5 +240,5 @@ module _ (e : List ℕ → List ℕ) (sixteen : (b : List ℕ) → length (e b) 
   lead-small xs =
       let whole = chain-whole (replicate 16 0) (blocks (mac-blocks (length xs)) (padded xs)) refl zeros-small in
       let four : length (take 4 (mac e xs)) ≡ 4 = length-take-le 4 (mac e xs) (omega (arith, whole .0)) in
-      let bound = number-small (take 4 (mac e xs)) (all-take (λ x. x < 256) 4 (mac e xs) (whole .1)) in
+      let bound = number-fits (take 4 (mac e xs)) (all-take (λ x. x < 256) 4 (mac e xs) (whole .1)) in
       rw four at bound

@@ -1,4 +1,3 @@
-pub mod Numbers
 pub mod KeyOctets
 pub mod Laws
 pub mod Stream

@@ -10,8 +10,8 @@ use lib.ListN.{length, getD}
 use Rattle.std.proofs.shelf.Counted.{length-map-counting, getD-map-counting, fill-by-all}
 use Rattle.std.proofs.shelf.Elements.{all-from-getD}
 use Rattle.std.proofs.shelf.Lists.{length-map}
+use Rattle.octets.specs.Numbers.{Octets}
 use Rattle.aes.specs.Cipher.{aes128}
-use Rattle.aes.specs.Octets.{Octets}
 use Rattle.aes.proofs.Bounds.{octets-aes128, length-aes128}
 use Rattle.banks.specs.declared.keys.Iv.{Iv}
 use Rattle.banks.specs.declared.keys.Key.{Key}

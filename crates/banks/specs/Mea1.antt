@@ -5,8 +5,8 @@ use Prim.Native.Nat.{ℕ, _+_, _/_, _%_, _^_}
 use lib.Bits.{bitXor}
 use lib.ListN.{length, getD}
 use Rattle.std.specs.Iters.{counting}
+use Rattle.octets.specs.Numbers.{octets-of}
 use Rattle.aes.specs.Cipher.{aes128}
-use Rattle.aes.specs.Octets.{octets}
 use Rattle.banks.specs.declared.keys.Iv.{Iv}
 use Rattle.banks.specs.declared.keys.Key.{Key}
 use Rattle.banks.specs.Ciphers.{Ciphers, only}
@@ -14,7 +14,7 @@ use Rattle.banks.specs.Keys.{key-octets}
 
 -- counter block i: the IV plus i, modulo 2^128
 unfoldable pub counter-block : Iv → ℕ → List ℕ
-counter-block iv i = octets 16 ((iv .counter + i) % 2 ^ 128)
+counter-block iv i = octets-of 16 ((iv .counter + i) % 2 ^ 128)
 
 -- output block i
 unfoldable pub output-block : Key → Iv → ℕ → List ℕ

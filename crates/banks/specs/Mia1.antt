@@ -6,8 +6,8 @@ use Prim.Native.Nat.{ℕ, zero, suc, _+_, _-_, _*_, _/_, _%_, _<_, _≤_}
 use lib.Bits.{bitXor}
 use lib.ListN.{length, getD, take, drop, replicate}
 use Rattle.std.specs.Iters.{counting}
+use Rattle.octets.specs.Numbers.{number}
 use Rattle.aes.specs.Cipher.{aes128}
-use Rattle.aes.specs.Octets.{number}
 use Rattle.banks.specs.declared.keys.Key.{Key}
 use Rattle.banks.specs.Ciphers.{only}
 use Rattle.banks.specs.Keys.{key-octets}

@@ -7,7 +7,7 @@ use Rattle.std.specs.Slices.{found}
 use Rattle.std.specs.declared.option.Option.{Option}
 use Rattle.std.specs.declared.option.Option.the-variants.{Some, None}
 use Rattle.std.specs.shelf.Lists.{sum}
-use Rattle.aes.specs.Octets.{number}
+use Rattle.octets.specs.Numbers.{number}
 use Rattle.banks.specs.declared.keys.Key.{Key}
 use Rattle.banks.specs.Ciphers.{only}
 use Rattle.banks.specs.Keys.{key-octets}

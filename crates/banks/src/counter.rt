@@ -13,7 +13,7 @@ fn output_block(keys: &RoundKeys, iv: &Iv, i: usize) -> [u8; 16]
     ensures { λ r. ⌜ r ≡ cipher (now (keys .entry) .rounds) (counter-block (now (iv .entry)) i) ⌝ }
 {
     let counter = iv.counter.wrapping_add(i as u128);
-    encrypt(keys, counter.to_be_bytes())
+    encrypt(keys, octets::of_u128(counter))
 }
 
 // Adds the key stream to the octets, in place.

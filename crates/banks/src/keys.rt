@@ -21,27 +21,10 @@ impl Key {
         ensures value { λ r. ⌜ r ≡ key-of from ⌝ }
         ensures back { λ r. ⌜ key-octets r ≡ from ⌝ }
     {
+        let [a, b, c, d, e, f, g, h, i, j, k, l, m, n, o, p] = from;
         Key {
-            high: u64::from_be_bytes([
-                from[0],
-                from[1],
-                from[2],
-                from[3],
-                from[4],
-                from[5],
-                from[6],
-                from[7],
-            ]),
-            low: u64::from_be_bytes([
-                from[8],
-                from[9],
-                from[10],
-                from[11],
-                from[12],
-                from[13],
-                from[14],
-                from[15],
-            ]),
+            high: octets::to_u64([a, b, c, d, e, f, g, h]),
+            low: octets::to_u64([i, j, k, l, m, n, o, p]),
         }
     }
 
@@ -50,26 +33,9 @@ impl Key {
         ensures value { λ r. ⌜ r ≡ key-octets self ⌝ }
         ensures back { λ r. ⌜ key-of r ≡ self ⌝ }
     {
-        let h = self.high.to_be_bytes();
-        let l = self.low.to_be_bytes();
-        [
-            h[0],
-            h[1],
-            h[2],
-            h[3],
-            h[4],
-            h[5],
-            h[6],
-            h[7],
-            l[0],
-            l[1],
-            l[2],
-            l[3],
-            l[4],
-            l[5],
-            l[6],
-            l[7],
-        ]
+        let [a, b, c, d, e, f, g, h] = octets::of_u64(self.high);
+        let [i, j, k, l, m, n, o, p] = octets::of_u64(self.low);
+        [a, b, c, d, e, f, g, h, i, j, k, l, m, n, o, p]
     }
 }
 
@@ -80,7 +46,7 @@ impl Iv {
         ensures back { λ r. ⌜ iv-octets r ≡ from ⌝ }
     {
         Iv {
-            counter: u128::from_be_bytes(from),
+            counter: octets::to_u128(from),
         }
     }
 
@@ -89,6 +55,6 @@ impl Iv {
         ensures value { λ r. ⌜ r ≡ iv-octets self ⌝ }
         ensures back { λ r. ⌜ iv-of r ≡ self ⌝ }
     {
-        self.counter.to_be_bytes()
+        octets::of_u128(self.counter)
     }
 }

@@ -50,6 +50,6 @@ pub fn mac(key: &Key, first: &[u8], second: &[u8]) -> u32
     let chain = absorb(&keys, absorb(&keys, start, first), second);
     let mut last = chain.value;
     last[chain.filled] ^= 0x80;
-    let value = encrypt(&keys, last);
-    u32::from_be_bytes([value[0], value[1], value[2], value[3]])
+    let [a, b, c, d, ..] = encrypt(&keys, last);
+    octets::to_u32([a, b, c, d])
 }

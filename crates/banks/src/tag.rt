@@ -75,8 +75,8 @@ pub impl TagBank for TestTag as TestTagBank {
 
     fn tag(&mut self, number: u8, key: &Key, first: &[u8], second: &[u8]) -> u32 {
         if number == 15 {
-            let octets = key.octets();
-            let lead = u32::from_be_bytes([octets[0], octets[1], octets[2], octets[3]]);
+            let [a, b, c, d, ..] = key.octets();
+            let lead = octets::to_u32([a, b, c, d]);
             add_up(add_up(lead, first), second)
         } else {
             0

@@ -1,4 +1,5 @@
 // The rules of a MAPsec station that need no station: refusals, settings, protection modes, the window and the message layout.
+pub mod bounds;
 pub mod component;
 pub mod listed;
 pub mod message;

@@ -1,8 +1,6 @@
 // The layout of MAPsec messages. No other module knows where a field lies.
 ghost use mathlib.Core.Path.{_≡_};
-ghost use mathlib.Core.Bool.{cond};
 ghost use Prim.Native.Nat.{_+_, _≤_};
-ghost use lib.Dec.{ltb};
 ghost use lib.ListN.{length};
 ghost use Rattle.octets.specs.Numbers.{number};
 ghost use Rattle.rules.specs.Checks.{decided};
@@ -10,6 +8,16 @@ ghost use Rattle.rules.specs.Layout.{part, open-header, sealed-header, iv-octe
 use crate::component::ComponentId;
 use crate::protection::ProtectionMode;
 use crate::refusal::Refusal;
+
+// How many octets the headers have, open and sealed, and the tag.
+pub const OPEN_HEADER: usize = 6;
+
+pub const SEALED_HEADER: usize = 20;
+
+pub const TAG: usize = 4;
+
+// A sealed message has a header and a tag at least.
+pub const SHORTEST_SEALED: usize = 24;
 
 // What every message starts with: the SPI, and the identifier of the component inside.
 #[derive(Clone, Copy)]
@@ -72,7 +80,7 @@ impl SecurityHeader {
         ensures { λ r. ⌜ r ≡ decided (header-checks (now (message .entry))) (header-in (now (message .entry))) ⌝ }
     {
         let length = message.len();
-        if length < 6 {
+        if length < OPEN_HEADER {
             return Err(Refusal::MessageTooShort { length });
         }
         let component = ComponentId {
@@ -175,19 +183,19 @@ pub fn read(message: &[u8], mode: ProtectionMode) -> Result<Message<'_>, Refusal
 {
     let length = message.len();
     if mode.protects() {
-        if length < 24 {
+        if length < SHORTEST_SEALED {
             return Err(Refusal::MessageTooShort { length });
         }
-        let end = length - 4;
+        let end = length - TAG;
         return Ok(Message::Sealed(SealedMessage {
             header: Part {
                 place: 0,
-                octets: &message[0..20],
+                octets: &message[0..SEALED_HEADER],
             },
             fields: fields_of(message),
             payload: Part {
-                place: 20,
-                octets: &message[20..end],
+                place: SEALED_HEADER,
+                octets: &message[SEALED_HEADER..end],
             },
             tag: Part {
                 place: end,
@@ -196,17 +204,17 @@ pub fn read(message: &[u8], mode: ProtectionMode) -> Result<Message<'_>, Refusal
             claimed: u32_at(message, end),
         }));
     }
-    if length < 6 {
+    if length < OPEN_HEADER {
         return Err(Refusal::MessageTooShort { length });
     }
     Ok(Message::Open(OpenMessage {
         header: Part {
             place: 0,
-            octets: &message[0..6],
+            octets: &message[0..OPEN_HEADER],
         },
         payload: Part {
-            place: 6,
-            octets: &message[6..length],
+            place: OPEN_HEADER,
+            octets: &message[OPEN_HEADER..length],
         },
     }))
 }

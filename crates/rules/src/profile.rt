@@ -1,6 +1,5 @@
 // Protection profiles: which level a PPI gives to an operation.
 ghost use mathlib.Core.Path.{_≡_};
-ghost use lib.ListN.{length};
 ghost use Rattle.rules.specs.Profiles.{level-in, row-in, levels-known, lines-apart};
 use crate::protection::LevelModes;
 use crate::protection::level_modes;

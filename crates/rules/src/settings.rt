@@ -9,7 +9,7 @@ ghost use Rattle.rules.specs.Listed.{kinds-known};
 use crate::component::ComponentId;
 use crate::profile::ProfileLine;
 
-// A struct of settings that hold their bounds: made only by `checked`, so no later call has to ask.
+// Settings that hold their bounds: made only by `Settings::new` (module `checked`), so no later call has to ask.
 #[derive(Drop)]
 pub struct Settings {
     own: u32,

@@ -1,14 +1,12 @@
 // Protect: from a component to the octets of a message.
 ghost use mathlib.Core.Path.{_≡_};
-ghost use mathlib.Core.List.{[], _∷_};
 ghost use mathlib.Core.Bool.{not};
 ghost use Prim.Native.Nat.{_≤_};
 ghost use lib.ListN.{length};
-ghost use Rattle.std.specs.Options.{isSome};
 ghost use Rattle.rules.specs.Checks.{decided};
 ghost use Rattle.rules.specs.declared.refusal.Refusal.the-variants.{NoPolicy};
 ghost use Rattle.station.specs.Forms.{form-checks};
-ghost use Rattle.station.specs.Protect.{Call, room-checks, protected-at as count-at, Sends, Protected};
+ghost use Rattle.station.specs.Protect.{room-checks, protected-at as count-at, Sends, Protected};
 ghost use Rattle.station.specs.Seal.{message-length as length-of};
 ghost use Rattle.station.specs.States.{contents-of};
 use crate::choice::choose;
@@ -19,8 +17,12 @@ use crate::seal::write_sealed;
 use crate::station::Station;
 use banks::cipher::CipherBank;
 use banks::tag::TagBank;
+use rules::bounds::LONGEST_CLEARTEXT;
+use rules::bounds::PROTECTED_AT_ONCE;
 use rules::component::ComponentId;
 use rules::message::IvFields;
+use rules::message::OPEN_HEADER;
+use rules::message::SHORTEST_SEALED;
 use rules::message::SecurityHeader;
 use rules::protection::ProtectionMode;
 use rules::refusal::Refusal;
@@ -40,7 +42,7 @@ pub(crate) fn form(component: ComponentId, length: usize) -> Result<(), Refusal>
     if component.known_kind().is_none() {
         return Err(Refusal::UnknownKind { place: 0 });
     }
-    if length > 1024 {
+    if length > LONGEST_CLEARTEXT {
         return Err(Refusal::CleartextTooLong { place: 0 });
     }
     Ok(())
@@ -52,9 +54,9 @@ fn message_length(mode: ProtectionMode, cleartext: usize) -> usize
     ensures { λ r. ⌜ r ≡ length-of mode cleartext ⌝ }
 {
     if mode.protects() {
-        24 + cleartext
+        SHORTEST_SEALED + cleartext
     } else {
-        6 + cleartext
+        OPEN_HEADER + cleartext
     }
 }
 
@@ -65,7 +67,7 @@ fn room(mode: ProtectionMode, needed: usize, output: usize, count: u32) -> Resul
     if output < needed {
         return Err(Refusal::OutputTooShort { needed });
     }
-    if mode.protects() & (count >= 200) {
+    if mode.protects() & (count >= PROTECTED_AT_ONCE) {
         return Err(Refusal::TickFull);
     }
     Ok(())

@@ -2,7 +2,7 @@
 ghost use mathlib.Core.Path.{_≡_};
 ghost use mathlib.Core.Bool.{true};
 ghost use mathlib.Core.List.{_++_};
-ghost use Prim.Native.Nat.{_<_, _≤_};
+ghost use Prim.Native.Nat.{_<_};
 ghost use lib.ListN.{length, drop};
 ghost use Rattle.std.specs.Results.{isOk, isErr};
 ghost use Rattle.rules.specs.Checks.{decided};
@@ -10,7 +10,7 @@ ghost use Rattle.rules.specs.Layout.{header-in};
 ghost use Rattle.rules.specs.Window.{last-tick};
 ghost use Rattle.station.specs.Clock.{read-at};
 ghost use Rattle.station.specs.Forms.{association-or-blank};
-ghost use Rattle.station.specs.Receive.{from-network, association-of, entrance-checks, open-checks, fresh-checks, room-checks, heard-key, Hands-over, Received};
+ghost use Rattle.station.specs.Receive.{association-of, entrance-checks, open-checks, fresh-checks, room-checks, heard-key, Hands-over, Received};
 ghost use Rattle.station.specs.Plain.{Taken-plain};
 ghost use Rattle.station.specs.Slips.{refusal-number};
 ghost use Rattle.station.specs.States.{contents-of};
@@ -27,9 +27,12 @@ use crate::slip::with_slip;
 use crate::station::Station;
 use banks::cipher::CipherBank;
 use banks::tag::TagBank;
+use rules::bounds::LONGEST_CLEARTEXT;
 use rules::component::ComponentId;
 use rules::message::IvFields;
 use rules::message::Message;
+use rules::message::OPEN_HEADER;
+use rules::message::SEALED_HEADER;
 use rules::message::SealedMessage;
 use rules::message::SecurityHeader;
 use rules::message::read;
@@ -133,8 +136,8 @@ impl Station {
         ensures { λ r. ⌜ r ≡ decided (open-checks (now (self .entry) .settings) component (now (payload .entry)) output) tt ⌝ }
     {
         let needed = payload.len();
-        if needed > 1024 {
-            return Err(Refusal::CleartextTooLong { place: 6 });
+        if needed > LONGEST_CLEARTEXT {
+            return Err(Refusal::CleartextTooLong { place: OPEN_HEADER });
         }
         if self.settings.lists(component) & !self.settings.fallback() {
             return Err(Refusal::ListedUnprotected { place: 4 });
@@ -219,8 +222,10 @@ impl Station {
     {
         let payload = message.payload.octets;
         let needed = payload.len();
-        if needed > 1024 {
-            return Err(Refusal::CleartextTooLong { place: 20 });
+        if needed > LONGEST_CLEARTEXT {
+            return Err(Refusal::CleartextTooLong {
+                place: SEALED_HEADER,
+            });
         }
         let last = self.fresh(registers, tags, reading, key, association, message)?;
         room(registers, reading, needed, output.len())?;

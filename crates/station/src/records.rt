@@ -1,7 +1,6 @@
 // The records that a station keeps. None holds an array, so that each can lie in a register.
 ghost use mathlib.Core.Path.{_≡_};
-ghost use mathlib.Core.Bool.{Bool, true};
-ghost use Prim.Native.Nat.{ℕ, _-_};
+ghost use Prim.Native.Nat.{_-_};
 ghost use lib.Dec.{eqb};
 ghost use Rattle.station.specs.Records.{association-key, same-association, live, same-heard};
 use banks::keys::Key;

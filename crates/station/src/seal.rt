@@ -1,7 +1,6 @@
 // Writing the octets of a message.
 ghost use mathlib.Core.Path.{_≡_};
-ghost use mathlib.Core.List.{_++_};
-ghost use Prim.Native.Nat.{_+_, _≤_};
+ghost use Prim.Native.Nat.{_+_};
 ghost use lib.ListN.{length};
 ghost use Rattle.rules.specs.Layout.{open-message};
 ghost use Rattle.station.specs.Seal.{turned, sealed-under};
@@ -10,7 +9,10 @@ use banks::cipher::CipherBank;
 use banks::keys::Iv;
 use banks::tag::TagBank;
 use rules::message::IvFields;
+use rules::message::OPEN_HEADER;
+use rules::message::SEALED_HEADER;
 use rules::message::SecurityHeader;
+use rules::message::TAG;
 use rules::protection::ProtectionMode;
 
 // Turns cleartext into payload, and payload into cleartext: in mode 2 by the association's cipher, else not at all.
@@ -43,8 +45,8 @@ pub(crate) fn write_open(header: SecurityHeader, cleartext: &[u8], message: &mut
     ensures { λ _. ⌜ now (message .exit) ≡ open-message header (now (cleartext .entry)) ⌝ }
 {
     let end = message.len();
-    message[0..6].copy_from_slice(&header.open_octets());
-    message[6..end].copy_from_slice(cleartext);
+    message[0..OPEN_HEADER].copy_from_slice(&header.open_octets());
+    message[OPEN_HEADER..end].copy_from_slice(cleartext);
 }
 
 // A message in mode 1 or 2.
@@ -64,21 +66,21 @@ pub(crate) fn write_sealed<C: CipherBank, T: TagBank>(
     ensures message { λ _. ⌜ now (message .exit) ≡ sealed-under (C·CipherBank .means (now (ciphers .entry))) (T·TagBank .means (now (tags .entry))) (now (association .entry)) header fields mode (now (cleartext .entry)) ⌝ }
 {
     let end = message.len();
-    let tag_place = end - 4;
-    message[0..20].copy_from_slice(&header.sealed_octets(fields));
-    message[20..tag_place].copy_from_slice(cleartext);
+    let tag_place = end - TAG;
+    message[0..SEALED_HEADER].copy_from_slice(&header.sealed_octets(fields));
+    message[SEALED_HEADER..tag_place].copy_from_slice(cleartext);
     turn(
         ciphers,
         association,
         fields,
         mode,
-        &mut message[20..tag_place],
+        &mut message[SEALED_HEADER..tag_place],
     );
     let tag = tags.tag(
         association.mia,
         &association.integrity_key,
-        &message[0..20],
-        &message[20..tag_place],
+        &message[0..SEALED_HEADER],
+        &message[SEALED_HEADER..tag_place],
     );
     message[tag_place..end].copy_from_slice(&octets::of_u32(tag));
 }

@@ -17,6 +17,9 @@ use banks::cipher::CipherBank;
 use banks::tag::TagBank;
 use register::Ending;
 use register::Keyed;
+use rules::bounds::LONGEST_LIFE;
+use rules::bounds::NETWORKS;
+use rules::bounds::READINGS;
 use rules::refusal::AssociationField;
 use rules::refusal::PolicyField;
 use rules::refusal::Refusal;
@@ -53,7 +56,7 @@ impl Station {
     ) -> Result<(), Refusal>
         ensures { λ r. ⌜ Admitted network stance (contents-of (now (registers .entry))) (contents-of (now (registers .exit))) r ⌝ }
     {
-        if network >= 16_777_216 {
+        if network >= NETWORKS {
             return Err(Refusal::WrongPolicy {
                 field: PolicyField::Network,
             });
@@ -96,7 +99,7 @@ impl Station {
     pub(crate) fn clock(&self, reading: u64) -> Result<(), Refusal>
         ensures { λ r. ⌜ r ≡ decided (clock-checks (now (self .entry) .latest) reading) tt ⌝ }
     {
-        if (reading >= 281_474_976_710_656) | (reading < self.latest) {
+        if (reading >= READINGS) | (reading < self.latest) {
             return Err(Refusal::WrongReading);
         }
         Ok(())
@@ -113,12 +116,12 @@ impl Station {
         ensures { λ r. ⌜ r ≡ decided (field-checks (now (self .entry) .settings .own) (C·CipherBank .means (now (ciphers .entry))) (T·TagBank .means (now (tags .entry))) reading (now (a .entry))) tt ⌝ }
     {
         let own = self.settings.own();
-        if (a.sender >= 16_777_216) | ((a.sender != own) & (a.destination != own)) {
+        if (a.sender >= NETWORKS) | ((a.sender != own) & (a.destination != own)) {
             return Err(Refusal::WrongAssociation {
                 field: AssociationField::Sender,
             });
         }
-        if a.destination >= 16_777_216 {
+        if a.destination >= NETWORKS {
             return Err(Refusal::WrongAssociation {
                 field: AssociationField::Destination,
             });
@@ -138,7 +141,7 @@ impl Station {
                 field: AssociationField::SoftExpiry,
             });
         }
-        if (a.hard <= reading) || (a.hard - reading > 2_147_483_648) {
+        if (a.hard <= reading) || (a.hard - reading > LONGEST_LIFE) {
             return Err(Refusal::WrongAssociation {
                 field: AssociationField::HardExpiry,
             });

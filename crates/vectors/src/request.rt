@@ -142,7 +142,7 @@ impl Request {
                     first.as_slice(),
                     second.as_slice(),
                 );
-                Ok(Vec::from_slice(heap, &tag.to_be_bytes())?)
+                Ok(Vec::from_slice(heap, &octets::of_u32(tag))?)
             }
             Request::Expand { key } => Ok(expanded(heap, key)?),
         }

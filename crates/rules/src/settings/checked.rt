@@ -1,6 +1,5 @@
 // Making settings, and reading them.
 ghost use mathlib.Core.Path.{_≡_};
-ghost use mathlib.Core.Bool.{true};
 ghost use Prim.Native.Nat.{_≤_, _<_};
 ghost use Rattle.std.specs.Of.Vec.{vec-items};
 ghost use Rattle.std.specs.Vec.{made};
@@ -8,6 +7,12 @@ ghost use Rattle.rules.specs.Checks.{first, refusal-of};
 ghost use Rattle.rules.specs.Listed.{listed-in};
 ghost use Rattle.rules.specs.Profiles.{mode-in};
 ghost use Rattle.rules.specs.Settings.{setting-checks};
+use crate::bounds::MOST_AHEAD;
+use crate::bounds::MOST_BACK;
+use crate::bounds::MOST_LINES;
+use crate::bounds::MOST_LISTED;
+use crate::bounds::NE_IDS;
+use crate::bounds::NETWORKS;
 use crate::component::ComponentId;
 use crate::listed::kinds_known;
 use crate::listed::lists;
@@ -35,32 +40,32 @@ impl Settings {
         ensures checked { λ r. ⌜ refusal-of r ≡ first (setting-checks own «ne_id» back ahead (vec-items listed) (vec-items profile)) ⌝ }
         ensures holds { λ r. ⌜ made r (λ s. (s .own ≡ own) × (s .«ne_id» ≡ «ne_id») × (s .back ≡ back) × (s .ahead ≡ ahead) × (s .fallback ≡ fallback) × (s .listed ≡ listed) × (s .profile ≡ profile)) ⌝ }
     {
-        if own >= 16_777_216 {
+        if own >= NETWORKS {
             return Err(Refusal::WrongSetting {
                 setting: Setting::OwnNetwork,
             });
         }
-        if ne_id >= 281_474_976_710_656 {
+        if ne_id >= NE_IDS {
             return Err(Refusal::WrongSetting {
                 setting: Setting::NeId,
             });
         }
-        if back > 6000 {
+        if back > MOST_BACK {
             return Err(Refusal::WrongSetting {
                 setting: Setting::Back,
             });
         }
-        if ahead > 600 {
+        if ahead > MOST_AHEAD {
             return Err(Refusal::WrongSetting {
                 setting: Setting::Ahead,
             });
         }
-        if (listed.len() > 64) | !kinds_known(&listed) {
+        if (listed.len() > MOST_LISTED) | !kinds_known(&listed) {
             return Err(Refusal::WrongSetting {
                 setting: Setting::ProtectedList,
             });
         }
-        if (profile.len() > 64) | !levels_known(&profile) | !lines_apart(&profile) {
+        if (profile.len() > MOST_LINES) | !levels_known(&profile) | !lines_apart(&profile) {
             return Err(Refusal::WrongSetting {
                 setting: Setting::ProfileLines,
             });
