@@ -70,7 +70,7 @@ fn best_of(
 }
 
 // The association for sending to a network at a reading, or none where no candidate is held.
-pub(crate) fn choose(
+pub fn choose(
     registers: &Registers<'_>,
     reading: u64,
     own: u32,

@@ -1,5 +1,5 @@
 // A MAPsec station: its records, its registers and its calls.
-mod choice;
+pub mod choice;
 pub mod protect;
 pub mod receive;
 pub mod records;

@@ -69,7 +69,7 @@ impl<'a> Registers<'a> {
         let _ = self.policies.remove(network);
     }
 
-    pub fn policy_capacity(&self) -> usize
+    pub(crate) fn policy_capacity(&self) -> usize
         ensures { λ r. ⌜ r ≡ length (now (now (self .entry) .policies .places)) ⌝ }
     {
         self.policies.capacity()
@@ -83,13 +83,13 @@ impl<'a> Registers<'a> {
     }
 
     // How many associations have a last tick that is not before the reading.
-    pub fn live_associations(&self, reading: u64) -> usize
+    pub(crate) fn live_associations(&self, reading: u64) -> usize
         ensures { λ r. ⌜ r ≡ live-count reading (now (now (self .entry) .associations .places)) ⌝ }
     {
         self.associations.count_not_past(reading)
     }
 
-    pub fn association_capacity(&self) -> usize
+    pub(crate) fn association_capacity(&self) -> usize
         ensures { λ r. ⌜ r ≡ length (now (now (self .entry) .associations .places)) ⌝ }
     {
         self.associations.capacity()
@@ -115,7 +115,7 @@ impl<'a> Registers<'a> {
     }
 
     // The message that was heard under a key, if its last tick is not before the reading.
-    pub fn heard_fresh(&self, key: HeardKey, reading: u64) -> bool
+    pub(crate) fn heard_fresh(&self, key: HeardKey, reading: u64) -> bool
         ensures { λ r. ⌜ r ≡ isSome (fresh-under reading key (now (now (self .entry) .heard .places))) ⌝ }
     {
         match self.heard.find(key) {
@@ -125,13 +125,13 @@ impl<'a> Registers<'a> {
     }
 
     // How many heard messages have a last tick that is not before the reading.
-    pub fn heard_count(&self, reading: u64) -> usize
+    pub(crate) fn heard_count(&self, reading: u64) -> usize
         ensures { λ r. ⌜ r ≡ fresh-count reading (now (now (self .entry) .heard .places)) ⌝ }
     {
         self.heard.count_not_past(reading)
     }
 
-    pub fn heard_capacity(&self) -> usize
+    pub(crate) fn heard_capacity(&self) -> usize
         ensures { λ r. ⌜ r ≡ length (now (now (self .entry) .heard .places)) ⌝ }
     {
         self.heard.capacity()
