@@ -1,4 +1,6 @@
 // Banks of ciphers and of tags: what they promise, and the ones that are delivered.
+#![tactic(auto)]
+
 pub mod cipher;
 mod counter;
 pub mod delivered;

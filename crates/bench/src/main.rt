@@ -1,5 +1,7 @@
 // Works the delivered banks over 1,024 octets, for tools/bench-aes.py to time: `bench ctr COUNT` and
 // `bench mac COUNT` make COUNT calls, and print what they leave. With no words it does nothing.
+#![tactic(auto)]
+
 use anyhow::anyhow;
 use banks::cipher::CipherBank;
 use banks::delivered::delivered;

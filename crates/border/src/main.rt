@@ -1,5 +1,7 @@
 // The gateway: reads statements, a line each, from the files that are named, or from standard
 // input, and answers on standard output.
+#![tactic(auto)]
+
 mod answers;
 mod hex;
 mod site;

@@ -1,4 +1,6 @@
 // The calls at a station, as the command language writes them.
+#![tactic(auto)]
+
 ghost use Rattle.std.specs.Prelude.{◌≡◌};
 ghost use Rattle.calls.specs.Calls.{parties, algorithms, lifetime, admit, install, revoke, protect, receive, plain, called_by, octets_place};
 

@@ -1,6 +1,8 @@
 // Executes worked cases on two rehearsed stations over the delivered banks, and prints one line to a case.
 // Those that follow from the definitions by computation are proved instead, as one statement.
 // Each file that is named has messages that an outside AES made.
+#![tactic(auto)]
+
 mod outside;
 mod replays;
 mod setup;

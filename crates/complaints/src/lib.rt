@@ -1,4 +1,6 @@
 // What is said of a line that cannot be read.
+#![tactic(auto)]
+
 use std::fmt;
 use words::cut::word_at;
 use words::fault::{Expected, Fault};

@@ -1,4 +1,6 @@
 // The delivered gateway: a station over the delivered banks, ciphers 0 and 1 and tag 1.
+#![tactic(auto)]
+
 ghost use Rattle.std.specs.Prelude.{◌≡◌, length};
 ghost use Rattle.banks.specs.Delivered.{delivered_ciphers, delivered_tags};
 ghost use Rattle.station.specs.Admit.{Admitted};

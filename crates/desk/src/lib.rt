@@ -1,4 +1,6 @@
 // Keeping what the declarations say of the two stations.
+#![tactic(auto)]
+
 ghost use Rattle.std.specs.Prelude.{◌≡◌, None};
 ghost use Rattle.desk.specs.Desk.{planned, Enters, EntersDesk, Taken};
 ghost use Rattle.script.specs.Statements.{subject};

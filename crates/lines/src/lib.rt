@@ -1,4 +1,6 @@
 // Cutting an input into lines, an octet at a time.
+#![tactic(auto)]
+
 ghost use Rattle.std.specs.Prelude.{◌≡◌, ℕ, ◌+◌, min, List, [], ◌∷◌, IfOk, if◌then◌else◌};
 ghost use Rattle.lines.specs.Lines.{trimmed, lines, Put, LastLine};
 

@@ -1,4 +1,6 @@
 // Numbers as octets, most significant octet first: the one place where the order of octets is decided.
+#![tactic(auto)]
+
 ghost use Rattle.std.specs.Prelude.{◌≡◌, ◌^◌};
 ghost use Rattle.octets.specs.Numbers.{octets_of, number, OctetsAndNumbers};
 

@@ -1,4 +1,6 @@
 // A register of keyed records, in places that its owner lends.
+#![tactic(auto)]
+
 ghost use Rattle.std.specs.Prelude.{◌≡◌, ◌≤◌, min, true, length, is_some, None, MatchOption};
 ghost use Rattle.register.specs.Places.{lookup, Found, PlaceOf, held_count, count_not_past, Empty, Put, Removed, Dropped};
 

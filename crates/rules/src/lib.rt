@@ -1,4 +1,6 @@
 // The rules of a MAPsec station that need no station: refusals, settings, protection modes, the window and the message layout.
+#![tactic(auto)]
+
 pub mod bounds;
 pub mod component;
 pub mod listed;

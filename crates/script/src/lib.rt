@@ -1,4 +1,6 @@
 // The command language of the gateway: lines of words, read into statements.
+#![tactic(auto)]
+
 pub mod calls;
 pub mod fault;
 pub mod numbers;

@@ -1,4 +1,6 @@
 // Trials of the command language: how lines are read, and what is said of those that cannot be.
+#![tactic(auto)]
+
 #[cfg(test)]
 mod faults;
 #[cfg(test)]

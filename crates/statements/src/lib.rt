@@ -1,2 +1,4 @@
 // The command language of the gateway: a line is read into a statement.
+#![tactic(auto)]
+
 pub mod statement;

@@ -1,4 +1,6 @@
 // A MAPsec station: its records, its registers and its calls.
+#![tactic(auto)]
+
 pub mod choice;
 pub mod protect;
 pub mod receive;

@@ -1,4 +1,6 @@
 // Trials of the delivered gateway at the edges of its rules.
+#![tactic(auto)]
+
 #[cfg(test)]
 mod arriving;
 #[cfg(test)]

@@ -1,6 +1,8 @@
 // Answers AES requests, a line each, with a line of hex digits each:
 //   ecb KEY BLOCK, cbc KEY IV OCTETS, ctr KEY IV OCTETS, mac KEY FIRST SECOND, expand KEY
 // Octets are pairs of hex digits, `-` for none; a line that is empty or begins with `#` is passed over.
+#![tactic(auto)]
+
 use anyhow::anyhow;
 use std::alloc::Global;
 use std::io::{BufRead, BufReader};

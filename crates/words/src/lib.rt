@@ -1,4 +1,6 @@
 // The words of a line, and what each of them stands for.
+#![tactic(auto)]
+
 pub mod cut;
 pub mod fault;
 pub mod fields;

@@ -4,4 +4,4 @@ use Rattle.octets.proofs.of_u48.Goals as goal
 
 pub returns : goal.returns
 unfolding octets_of
-returns c = simp (c.to-be-bytes.ensures, div-one)
+returns c = simp (c.to_be_bytes.ensures, div-one)
