@@ -1,48 +1,48 @@
-use Rattle.std.proofs.Common.{◌≡◌, ◌∙◌}
+use Rattle.std.proofs.Common.{◌∙◌}
 use Rattle.words.proofs.Readings.{stops, goes}
 use Rattle.calls.specs.Calls.{plain}
 use Rattle.calls.proofs.plain.Goals as goal
 
-pub returns-in-err-reading : goal.returns-in-err-reading
+pub returns-in_err-reading : goal.returns-in_err-reading
 unfolding plain
-returns-in-err-reading c =
-    stops _ _ _ _ c.from-residual.ensures.1 c.in-err-reading.ensures.value
+returns-in_err-reading c =
+    stops _ _ _ _ c.from_residual.ensures.1 c.in_err-reading.ensures.value
 
-pub returns-in-err-kind : goal.returns-in-err-kind
+pub returns-in_err-kind : goal.returns-in_err-kind
 unfolding plain
-returns-in-err-kind c =
-    stops _ _ _ _ c.from-residual-in-err-kind.ensures.1 c.in-err-kind.ensures
-    ∙ goes _ _ _ c.in-ok-reading.ensures.value
+returns-in_err-kind c =
+    stops _ _ _ _ c.from_residual-in_err-kind.ensures.1 c.in_err-kind.ensures
+    ∙ goes _ _ _ c.in_ok-reading.ensures.value
 
-pub returns-in-err-code : goal.returns-in-err-code
+pub returns-in_err-code : goal.returns-in_err-code
 unfolding plain
-returns-in-err-code c =
-    stops _ _ _ _ c.from-residual-in-err-code.ensures.1 c.in-err-code.ensures
-    ∙ goes _ _ _ c.in-ok-kind.ensures
-    ∙ goes _ _ _ c.in-ok-reading.ensures.value
+returns-in_err-code c =
+    stops _ _ _ _ c.from_residual-in_err-code.ensures.1 c.in_err-code.ensures
+    ∙ goes _ _ _ c.in_ok-kind.ensures
+    ∙ goes _ _ _ c.in_ok-reading.ensures.value
 
-pub returns-in-err-waiting : goal.returns-in-err-waiting
+pub returns-in_err-waiting : goal.returns-in_err-waiting
 unfolding plain
-returns-in-err-waiting c =
-    stops _ _ _ _ c.from-residual-in-err-waiting.ensures.1 c.in-err-waiting.ensures
-    ∙ goes _ _ _ c.in-ok-code.ensures
-    ∙ goes _ _ _ c.in-ok-kind.ensures
-    ∙ goes _ _ _ c.in-ok-reading.ensures.value
+returns-in_err-waiting c =
+    stops _ _ _ _ c.from_residual-in_err-waiting.ensures.1 c.in_err-waiting.ensures
+    ∙ goes _ _ _ c.in_ok-code.ensures
+    ∙ goes _ _ _ c.in_ok-kind.ensures
+    ∙ goes _ _ _ c.in_ok-reading.ensures.value
 
-pub returns-in-err-end-at : goal.returns-in-err-end-at
+pub returns-in_err-end_at : goal.returns-in_err-end_at
 unfolding plain
-returns-in-err-end-at c =
-    stops _ _ _ _ c.from-residual-in-err-end-at.ensures.1 c.in-err-end-at.ensures
-    ∙ goes _ _ _ c.in-ok-waiting.ensures
-    ∙ goes _ _ _ c.in-ok-code.ensures
-    ∙ goes _ _ _ c.in-ok-kind.ensures
-    ∙ goes _ _ _ c.in-ok-reading.ensures.value
+returns-in_err-end_at c =
+    stops _ _ _ _ c.from_residual-in_err-end_at.ensures.1 c.in_err-end_at.ensures
+    ∙ goes _ _ _ c.in_ok-waiting.ensures
+    ∙ goes _ _ _ c.in_ok-code.ensures
+    ∙ goes _ _ _ c.in_ok-kind.ensures
+    ∙ goes _ _ _ c.in_ok-reading.ensures.value
 
 pub returns : goal.returns
 unfolding plain
 returns c =
-    goes _ _ _ c.in-ok-end-at.ensures
-    ∙ goes _ _ _ c.in-ok-waiting.ensures
-    ∙ goes _ _ _ c.in-ok-code.ensures
-    ∙ goes _ _ _ c.in-ok-kind.ensures
-    ∙ goes _ _ _ c.in-ok-reading.ensures.value
+    goes _ _ _ c.in_ok-end_at.ensures
+    ∙ goes _ _ _ c.in_ok-waiting.ensures
+    ∙ goes _ _ _ c.in_ok-code.ensures
+    ∙ goes _ _ _ c.in_ok-kind.ensures
+    ∙ goes _ _ _ c.in_ok-reading.ensures.value

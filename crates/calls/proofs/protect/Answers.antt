@@ -1,59 +1,59 @@
-use Rattle.std.proofs.Common.{◌≡◌, ◌∙◌}
+use Rattle.std.proofs.Common.{◌∙◌}
 use Rattle.words.proofs.Readings.{stops, goes}
 use Rattle.calls.specs.Calls.{protect}
 use Rattle.calls.proofs.protect.Goals as goal
 
-pub returns-in-err-reading : goal.returns-in-err-reading
+pub returns-in_err-reading : goal.returns-in_err-reading
 unfolding protect
-returns-in-err-reading c =
-    stops _ _ _ _ c.from-residual.ensures.1 c.in-err-reading.ensures.value
+returns-in_err-reading c =
+    stops _ _ _ _ c.from_residual.ensures.1 c.in_err-reading.ensures.value
 
-pub returns-in-err-network : goal.returns-in-err-network
+pub returns-in_err-network : goal.returns-in_err-network
 unfolding protect
-returns-in-err-network c =
-    stops _ _ _ _ c.from-residual-in-err-network.ensures.1 c.in-err-network.ensures
-    ∙ goes _ _ _ c.in-ok-reading.ensures.value
+returns-in_err-network c =
+    stops _ _ _ _ c.from_residual-in_err-network.ensures.1 c.in_err-network.ensures
+    ∙ goes _ _ _ c.in_ok-reading.ensures.value
 
-pub returns-in-err-kind : goal.returns-in-err-kind
+pub returns-in_err-kind : goal.returns-in_err-kind
 unfolding protect
-returns-in-err-kind c =
-    stops _ _ _ _ c.from-residual-in-err-kind.ensures.1 c.in-err-kind.ensures
-    ∙ goes _ _ _ c.in-ok-network.ensures
-    ∙ goes _ _ _ c.in-ok-reading.ensures.value
+returns-in_err-kind c =
+    stops _ _ _ _ c.from_residual-in_err-kind.ensures.1 c.in_err-kind.ensures
+    ∙ goes _ _ _ c.in_ok-network.ensures
+    ∙ goes _ _ _ c.in_ok-reading.ensures.value
 
-pub returns-in-err-code : goal.returns-in-err-code
+pub returns-in_err-code : goal.returns-in_err-code
 unfolding protect
-returns-in-err-code c =
-    stops _ _ _ _ c.from-residual-in-err-code.ensures.1 c.in-err-code.ensures
-    ∙ goes _ _ _ c.in-ok-kind.ensures
-    ∙ goes _ _ _ c.in-ok-network.ensures
-    ∙ goes _ _ _ c.in-ok-reading.ensures.value
+returns-in_err-code c =
+    stops _ _ _ _ c.from_residual-in_err-code.ensures.1 c.in_err-code.ensures
+    ∙ goes _ _ _ c.in_ok-kind.ensures
+    ∙ goes _ _ _ c.in_ok-network.ensures
+    ∙ goes _ _ _ c.in_ok-reading.ensures.value
 
-pub returns-in-err-room : goal.returns-in-err-room
+pub returns-in_err-room : goal.returns-in_err-room
 unfolding protect
-returns-in-err-room c =
-    stops _ _ _ _ c.from-residual-in-err-room.ensures.1 c.in-err-room.ensures.value
-    ∙ goes _ _ _ c.in-ok-code.ensures
-    ∙ goes _ _ _ c.in-ok-kind.ensures
-    ∙ goes _ _ _ c.in-ok-network.ensures
-    ∙ goes _ _ _ c.in-ok-reading.ensures.value
+returns-in_err-room c =
+    stops _ _ _ _ c.from_residual-in_err-room.ensures.1 c.in_err-room.ensures.value
+    ∙ goes _ _ _ c.in_ok-code.ensures
+    ∙ goes _ _ _ c.in_ok-kind.ensures
+    ∙ goes _ _ _ c.in_ok-network.ensures
+    ∙ goes _ _ _ c.in_ok-reading.ensures.value
 
-pub returns-in-err-end-at : goal.returns-in-err-end-at
+pub returns-in_err-end_at : goal.returns-in_err-end_at
 unfolding protect
-returns-in-err-end-at c =
-    stops _ _ _ _ c.from-residual-in-err-end-at.ensures.1 c.in-err-end-at.ensures
-    ∙ goes _ _ _ c.in-ok-room.ensures.value
-    ∙ goes _ _ _ c.in-ok-code.ensures
-    ∙ goes _ _ _ c.in-ok-kind.ensures
-    ∙ goes _ _ _ c.in-ok-network.ensures
-    ∙ goes _ _ _ c.in-ok-reading.ensures.value
+returns-in_err-end_at c =
+    stops _ _ _ _ c.from_residual-in_err-end_at.ensures.1 c.in_err-end_at.ensures
+    ∙ goes _ _ _ c.in_ok-room.ensures.value
+    ∙ goes _ _ _ c.in_ok-code.ensures
+    ∙ goes _ _ _ c.in_ok-kind.ensures
+    ∙ goes _ _ _ c.in_ok-network.ensures
+    ∙ goes _ _ _ c.in_ok-reading.ensures.value
 
 pub returns : goal.returns
 unfolding protect
 returns c =
-    goes _ _ _ c.in-ok-end-at.ensures
-    ∙ goes _ _ _ c.in-ok-room.ensures.value
-    ∙ goes _ _ _ c.in-ok-code.ensures
-    ∙ goes _ _ _ c.in-ok-kind.ensures
-    ∙ goes _ _ _ c.in-ok-network.ensures
-    ∙ goes _ _ _ c.in-ok-reading.ensures.value
+    goes _ _ _ c.in_ok-end_at.ensures
+    ∙ goes _ _ _ c.in_ok-room.ensures.value
+    ∙ goes _ _ _ c.in_ok-code.ensures
+    ∙ goes _ _ _ c.in_ok-kind.ensures
+    ∙ goes _ _ _ c.in_ok-network.ensures
+    ∙ goes _ _ _ c.in_ok-reading.ensures.value
