@@ -1,7 +1,7 @@
-use Rattle.std.proofs.Common.{◌≡◌, ◌-◌, ◌<◌, true, false, length, take, drop, sym, refl, ap, ◌∙◌, arith}
+use Rattle.std.proofs.Common.{◌≡◌, ◌-◌, ◌<◌, true, false, length, take, drop, sym, refl, ap, arith}
 use Rattle.std.proofs.ByRecursion.{All-from_get_or}
 use Rattle.octets.specs.Numbers.{Octets}
-use Rattle.rules.specs.Layout.{part, header_in, fields_in, tag_in, sealed_message, open_message}
+use Rattle.rules.specs.Layout.{part}
 use Rattle.rules.specs.Modes.{protects}
 use Rattle.rules.proofs.Layouts.{open_laid, sealed_laid}
 use Rattle.rules.proofs.message.read.Goals as goal

@@ -1,4 +1,4 @@
-use Rattle.std.proofs.Common.{◌≡◌, ℕ, ◌+◌, ◌-◌, Bool, true, false, List, length, get_or, take, drop, is_some, Option, sym, ap, ◌∙◌, arith}
+use Rattle.std.proofs.Common.{◌≡◌, ℕ, ◌+◌, ◌-◌, Bool, true, false, List, length, take, drop, is_some, Option, sym, ap, ◌∙◌, arith}
 use Rattle.rules.specs.Profiles.{lines_apart, level_in}
 use Rattle.rules.specs.declared.profile.ProfileLine.{ProfileLine}
 use Rattle.std.proofs.lemmas.List.{at_drop_more, at_drop_all, take_rest}
