@@ -20,6 +20,6 @@ returns c =
     let small = All-from_get_or (λ x. x < 256) c.args.cleartext.now 0 (λ i _. omega (arith, c.type_inv.cleartext i)) in
     record {
       protected = p;
-      by-aes = sent_by_aes (k delivered_ciphers delivered_tags) _ _ _ refl refl p;
+      by_aes = sent_by_aes (k delivered_ciphers delivered_tags) _ _ _ refl refl p;
       reads_back = sent_is_read (k delivered_ciphers delivered_tags) _ _ _ p refl refl small;
     }

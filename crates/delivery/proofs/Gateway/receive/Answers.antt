@@ -21,6 +21,6 @@ returns c =
     record {
       received = p;
       slip = c.receive.ensures.slip;
-      by-aes = tag_by_aes (k delivered_ciphers delivered_tags) _ _ _ _ p refl small;
-      cleartext-by-aes = opened_by_aes (k delivered_ciphers delivered_tags) _ _ _ _ p refl;
+      by_aes = tag_by_aes (k delivered_ciphers delivered_tags) _ _ _ _ p refl small;
+      cleartext_by_aes = opened_by_aes (k delivered_ciphers delivered_tags) _ _ _ _ p refl;
     }
