@@ -1,5 +1,5 @@
 -- What the word at a place of a line stands for, and the fault where it is not what was expected.
-use Rattle.std.specs.Prelude.{ℕ, ◌+◌, Bool, true, false, cond, List, [], ◌∷◌, length, Some, None, Ok, Err, codes, Option, Result, ◌==◌}
+use Rattle.std.specs.Prelude.{ℕ, ◌+◌, Bool, true, false, cond, List, length, Some, None, Ok, Err, codes, Option, Result, ◌==◌}
 use Rattle.std.specs.Str.{bytes_eq}
 use Rattle.words.specs.Numbers.{number, key}
 use Rattle.words.specs.Words.{word_at}

@@ -1,4 +1,3 @@
-use Rattle.std.proofs.Common.{◌<◌, length}
 use Rattle.words.proofs.Numerals.{Reads}
 use Rattle.words.proofs.numbers.numeral.Given as goal
 
