@@ -1,6 +1,6 @@
 -- A block enciphered under a key of octets is sixteen octets.
 -- Assumes nothing.
-use Rattle.std.proofs.Common.{◌≡◌, ℕ, zero, suc, ◌+◌, ◌-◌, ◌*◌, ◌/◌, ◌%◌, ◌<◌, true, false, cond, eqb, ltb, List, [], length, get_or, refl, arith, ltb→lt}
+use Rattle.std.proofs.Common.{◌≡◌, ℕ, zero, suc, ◌+◌, ◌-◌, ◌*◌, ◌/◌, ◌%◌, ◌<◌, true, false, cond, eqb, ltb, List, length, get_or, refl, arith, ltb→lt}
 use lib.Bits.{bit_xor, xor_lt}
 use Rattle.octets.specs.Numbers.{Octets}
 use Rattle.aes.specs.declared.state.Row.{Row}

@@ -1,10 +1,10 @@
 -- Numbers as octets, most significant octet first.
 use Rattle.std.specs.Prelude.{◌≡◌, ℕ, zero, suc, ◌+◌, ◌*◌, ◌/◌, ◌%◌, ◌^◌, ◌<◌, List, [], ◌∷◌, length}
-use Rattle.std.specs.List.{AllByRecursion as All}
+use Rattle.std.specs.List.{AllByRecursion}
 
 -- each is an octet: a number below 256
 abbrev pub Octets : List ℕ → Type 0
-Octets xs = All (λ x. x < 256) xs
+Octets xs = AllByRecursion (λ x. x < 256) xs
 
 -- the w octets of a number: at the front the one that counts 256 to the power w - 1
 unfoldable pub octets_of : ℕ → ℕ → List ℕ

@@ -1,5 +1,5 @@
 -- Listed components come only from rightly tagged messages.
-use Rattle.std.proofs.Common.{◌≡◌, ℕ, ◌-◌, ◌≤◌, true, false, not, ◌&&◌, ◌⊎◌, List, [], length, take, drop, Some, Ok, Err, vec_items, Result, sym, ap, ◌∙◌, subst, ⊎_elim, arith}
+use Rattle.std.proofs.Common.{◌≡◌, ℕ, ◌-◌, ◌≤◌, true, false, not, ◌&&◌, List, [], length, take, drop, Some, Ok, Err, vec_items, Result, sym, ap, ◌∙◌, subst, ⊎_elim, arith}
 use Rattle.std.specs.List.{slice_get}
 use Rattle.std.proofs.lemmas.Bool.{cases_Bool, both_ways, and_from, not-false, not_from_false, eqb-true, ltb-false}
 use Rattle.banks.specs.Ciphers.{Ciphers}

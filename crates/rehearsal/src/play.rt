@@ -23,7 +23,7 @@ pub(crate) fn play<C: CipherBank, T: TagBank>(
 ) -> Result<Answer, AllocError>
     ensures ciphers { C.CipherBank.means ciphers.new ≡ C.CipherBank.means ciphers.old }
     ensures tags { T.TagBank.means tags.new ≡ T.TagBank.means tags.old }
-    ensures step { IfOk result (λ a. Steps (C.CipherBank.means ciphers.old) (T.TagBank.means tags.old) call.now a (record { station = station.entry.now; contents = contents_of registers.old }) (record { station = station.exit.now; contents = contents_of registers.new })) }
+    ensures step { IfOk result (λ a. Steps (C.CipherBank.means ciphers.old) (T.TagBank.means tags.old) call.now a (record { station = station.old; contents = contents_of registers.old }) (record { station = station.new; contents = contents_of registers.new })) }
 {
     match *call {
         Call::Admit { network, stance } => Ok(kept(station.admit(registers, network, stance))),
@@ -72,7 +72,7 @@ pub(crate) fn turn<C: CipherBank, T: TagBank>(
 ) -> Result<Answer, AllocError>
     ensures ciphers { C.CipherBank.means ciphers.new ≡ C.CipherBank.means ciphers.old }
     ensures tags { T.TagBank.means tags.new ≡ T.TagBank.means tags.old }
-    ensures turns { IfOk result (λ a. Turns (C.CipherBank.means ciphers.old) (T.TagBank.means tags.old) (record { line = line.entry.now; answer = a }) (both_of station_a.old registers_a.old station_b.old registers_b.old) (both_of station_a.new registers_a.new station_b.new registers_b.new)) }
+    ensures turns { IfOk result (λ a. Turns (C.CipherBank.means ciphers.old) (T.TagBank.means tags.old) (record { line = line.now; answer = a }) (both_of station_a.old registers_a.old station_b.old registers_b.old) (both_of station_a.new registers_a.new station_b.new registers_b.new)) }
 {
     match line.side {
         Side::A => play(heap, station_a, registers_a, ciphers, tags, &line.call),

@@ -1,5 +1,5 @@
 -- A part of a message, octet by octet.
-use Rattle.std.proofs.Common.{◌≡◌, ℕ, suc, ◌+◌, ◌-◌, ◌<◌, ◌≤◌, List, [], ◌∷◌, ◌++◌, length, get_or, take, drop, sym, refl, ap, ◌∙◌, add_assoc, arith}
+use Rattle.std.proofs.Common.{◌≡◌, ℕ, suc, ◌+◌, ◌<◌, List, ◌∷◌, length, get_or, take, ap, ◌∙◌, add_assoc}
 use Rattle.std.proofs.lemmas.List.{drop_more}
 use Rattle.rules.specs.Layout.{part}
 

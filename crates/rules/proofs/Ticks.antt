@@ -1,9 +1,9 @@
 -- The window in ticks.
-use Rattle.std.proofs.Common.{◌≡◌, ℕ, ◌+◌, ◌-◌, ◌*◌, ◌/◌, ◌%◌, ◌<◌, ◌≤◌, Bool, true, false, ◌||◌, leb, ◌⊎◌, ℤ, pos, negsuc, ◌+ℤ◌, ◌-ℤ◌, ◌*ℤ◌, ◌≤ℤ◌, Decides, sym, refl, ap, ◌∙◌, inl, inr, div-add-mod', arith}
+use Rattle.std.proofs.Common.{ℕ, ◌+◌, ◌-◌, ◌/◌, ◌%◌, ◌<◌, ◌≤◌, pos, ◌+ℤ◌, ◌-ℤ◌, Decides, inl, inr, div-add-mod', arith}
 use Rattle.std.proofs.lemmas.Int.{ints}
 use Rattle.std.proofs.lemmas.Bool.{both_ways, or_from, or_left, or_right}
 use Rattle.std.proofs.lemmas.Bool.Decides.{leb_tells}
-use Rattle.rules.specs.Window.{age, lead, in_window, HasStamp, SomeTickNear}
+use Rattle.rules.specs.Window.{age, lead, in_window, SomeTickNear}
 
 -- the tick that made the stamp
 aged : (back ahead reading stamp : ℕ) → stamp < 4294967296 → age reading stamp ≤ back → SomeTickNear back ahead reading stamp

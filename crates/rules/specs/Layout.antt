@@ -2,7 +2,7 @@
 --   mode 0:         SPI 4, kind 1, code 1; the cleartext
 --   modes 1 and 2:  SPI 4, kind 1, code 1, TVP 4, NE-Id 6, Prop 4; the payload; the tag 4
 use Rattle.std.specs.Prelude.{◌≡◌, ℕ, ◌+◌, ◌-◌, ◌^◌, ◌<◌, ◌≤◌, Bool, true, false, List, [], ◌∷◌, ◌++◌, length, take, drop, Ok, Err, Result, nat_lt, slice_index}
-use Rattle.octets.specs.Numbers.{Octets, octets_of, number}
+use Rattle.octets.specs.Numbers.{octets_of, number}
 use Rattle.rules.specs.declared.message.SecurityHeader.{SecurityHeader}
 use Rattle.rules.specs.declared.message.IvFields.{IvFields}
 use Rattle.rules.specs.declared.message.Message.{Message}

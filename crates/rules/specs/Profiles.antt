@@ -1,5 +1,5 @@
 -- Protection profiles.
-use Rattle.std.specs.Prelude.{◌≡◌, ℕ, ◌<◌, Bool, true, false, cond, not, ◌&&◌, List, [], ◌∷◌, length, is_some, Some, None, Option, ◌==◌, nat_le}
+use Rattle.std.specs.Prelude.{ℕ, Bool, true, cond, not, ◌&&◌, List, [], ◌∷◌, is_some, Some, None, Option, ◌==◌, nat_le}
 use Rattle.rules.specs.declared.component.ComponentKind.{ComponentKind}
 use Rattle.rules.specs.declared.component.ComponentId.{ComponentId}
 use Rattle.rules.specs.declared.protection.LevelModes.{LevelModes}

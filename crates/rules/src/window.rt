@@ -1,6 +1,6 @@
 // Stamps, and the window in which one is fresh.
 ghost use Rattle.std.specs.Prelude.{◌≡◌, ◌%◌, ◌<◌, ◌≤◌, Decides};
-ghost use Rattle.rules.specs.Window.{age as age-of, lead as lead-of, in_window, last_tick, SomeTickNear};
+ghost use Rattle.rules.specs.Window.{age as age_of, lead as lead_of, in_window, last_tick, SomeTickNear};
 
 // The stamp (TVP) that is made at a reading: the reading modulo 2^32.
 pub fn stamp_at(reading: u64) -> u32
@@ -11,14 +11,14 @@ pub fn stamp_at(reading: u64) -> u32
 
 // How many ticks ago the stamp was made, modulo 2^32.
 pub fn age(reading: u64, stamp: u32) -> u32
-    ensures { result ≡ age-of reading stamp }
+    ensures { result ≡ age_of reading stamp }
 {
     stamp_at(reading).wrapping_sub(stamp)
 }
 
 // In how many ticks the stamp will be made, modulo 2^32.
 pub fn lead(reading: u64, stamp: u32) -> u32
-    ensures { result ≡ lead-of reading stamp }
+    ensures { result ≡ lead_of reading stamp }
 {
     stamp.wrapping_sub(stamp_at(reading))
 }

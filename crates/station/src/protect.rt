@@ -4,7 +4,7 @@ ghost use Rattle.rules.specs.Checks.{decided};
 ghost use Rattle.rules.specs.declared.refusal.Refusal.TheVariants.{NoPolicy};
 ghost use Rattle.station.specs.Forms.{form_checks};
 ghost use Rattle.station.specs.Protect.{room_checks, protected_at as count_at, Sends, Protected};
-ghost use Rattle.station.specs.Seal.{message_length as length-of};
+ghost use Rattle.station.specs.Seal.{message_length as length_of};
 ghost use Rattle.station.specs.States.{contents_of};
 
 use crate::choice::choose;
@@ -44,7 +44,7 @@ pub(crate) fn form(component: ComponentId, length: usize) -> Result<(), Refusal>
 // How many octets a message of a mode has.
 fn message_length(mode: ProtectionMode, cleartext: usize) -> usize
     requires { cleartext ≤ 1024 }
-    ensures { result ≡ length-of mode cleartext }
+    ensures { result ≡ length_of mode cleartext }
 {
     if mode.protects() {
         SHORTEST_SEALED + cleartext

@@ -1,7 +1,7 @@
 use Rattle.std.proofs.Common.{List, ap, ◌∙◌}
 use Rattle.aes.specs.declared.state.Row.{Row}
 use Rattle.aes.specs.Cipher.{last_round}
-use Rattle.aes.specs.State.{sub_bytes, shift_rows, add_round_key}
+use Rattle.aes.specs.State.{shift_rows, add_round_key}
 use Rattle.aes.proofs.cipher.last_round.Goals as goal
 
 pub returns : goal.returns

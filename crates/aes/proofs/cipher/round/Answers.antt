@@ -1,7 +1,7 @@
 use Rattle.std.proofs.Common.{List, ap, ◌∙◌}
 use Rattle.aes.specs.declared.state.Row.{Row}
 use Rattle.aes.specs.Cipher.{round}
-use Rattle.aes.specs.State.{sub_bytes, shift_rows, mix_columns, add_round_key}
+use Rattle.aes.specs.State.{shift_rows, mix_columns, add_round_key}
 use Rattle.aes.proofs.cipher.round.Goals as goal
 
 pub returns : goal.returns

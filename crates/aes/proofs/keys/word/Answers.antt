@@ -3,7 +3,7 @@ use Rattle.aes.proofs.Expansion.{word_first, word_next}
 use Rattle.aes.proofs.keys.word.Goals as goal
 
 pub returns-then-i-lt4 : goal.returns-then-i-lt4
-returns-then-i-lt4 c = c.word-at.ensures ∙ word_first c.args.key.now c.args.i c.if-i-lt4.true
+returns-then-i-lt4 c = c.word_at.ensures ∙ word_first c.args.key.now c.args.i c.if-i-lt4.true
 
 pub returns : goal.returns
 returns c =

@@ -20,10 +20,10 @@ loop-i-preserved c =
     let block : c.if-i-eq0.block ≡ output_block key iv (i / 16) =
     elim c.if-i-eq0.branch [
       | then-i-eq0 w ↦
-          w.block_is
-          ∙ w.output-block-block.ensures
+          w.block-is
+          ∙ w.output_block-block.ensures
           ∙ ap (λ (ks : List (List Row)). cipher ks (counter_block iv (i / 16))) keys
-      | else-i-eq0 w ↦ w.block_is ∙ c.loop-i.invariant.3 (omega (arith, w.if-i-eq0.false))
+      | else-i-eq0 w ↦ w.block-is ∙ c.loop-i.invariant.3 (omega (arith, w.if-i-eq0.false))
     ] in
     let within : i < length c.loop-i.octets = omega arith in (
       below_more _ _

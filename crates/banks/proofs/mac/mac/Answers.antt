@@ -1,4 +1,4 @@
-use Rattle.std.proofs.Common.{ℕ, List, take, sym, ap, ◌∙◌, rules}
+use Rattle.std.proofs.Common.{take, sym, ap, ◌∙◌, rules}
 use Rattle.octets.specs.Numbers.{number}
 use Rattle.octets.proofs.Widths.{read_from}
 use Rattle.aes.specs.Cipher.{schedule}
@@ -16,4 +16,4 @@ returns c =
     value c.absorb.result c.absorb-chain.result
     (c.expand-keys.ensures ∙ ap schedule c.octets.ensures.value) c.absorb.ensures.value
     c.absorb-chain.ensures.value c.encrypt.ensures in
-    c.to-u32.ensures ∙ ap number (sym (read_from 4 0 value (search rules)) ∙ ap (take 4) is)
+    c.to_u32.ensures ∙ ap number (sym (read_from 4 0 value (search rules)) ∙ ap (take 4) is)

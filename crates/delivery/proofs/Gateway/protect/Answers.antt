@@ -17,9 +17,9 @@ returns c =
     let p : Protected (k delivered_ciphers delivered_tags) c.protect.new.self c.protect.new.output c.protect.result =
     subst (λ (t : Tags). Protected (k delivered_ciphers t) c.protect.new.self c.protect.new.output c.protect.result) tags_delivered
     (subst (λ (m : Ciphers). Protected (k m mia1_tag) c.protect.new.self c.protect.new.output c.protect.result) ciphers_delivered c.protect.ensures.protected) in
-    let small = All-from_get_or (λ x. x < 256) c.args.cleartext.now 0 (λ i _. omega (arith, c.type-inv.cleartext i)) in
+    let small = All-from_get_or (λ x. x < 256) c.args.cleartext.now 0 (λ i _. omega (arith, c.type_inv.cleartext i)) in
     record {
       protected = p;
-      by-aes = sent_by_aes (k delivered_ciphers delivered_tags) _ _ _ refl refl p;
+      by_aes = sent_by_aes (k delivered_ciphers delivered_tags) _ _ _ refl refl p;
       reads_back = sent_is_read (k delivered_ciphers delivered_tags) _ _ _ p refl refl small;
     }

@@ -17,10 +17,10 @@ returns c =
     let p : Received (k delivered_ciphers delivered_tags) c.receive.new.self after c.receive.new.output c.receive.result.outcome =
     subst (λ (t : Tags). Received (k delivered_ciphers t) c.receive.new.self after c.receive.new.output c.receive.result.outcome) tags_delivered
     (subst (λ (m : Ciphers). Received (k m mia1_tag) c.receive.new.self after c.receive.new.output c.receive.result.outcome) ciphers_delivered c.receive.ensures.received) in
-    let small = All-from_get_or (λ x. x < 256) c.args.message.now 0 (λ i _. omega (arith, c.type-inv.message i)) in
+    let small = All-from_get_or (λ x. x < 256) c.args.message.now 0 (λ i _. omega (arith, c.type_inv.message i)) in
     record {
       received = p;
       slip = c.receive.ensures.slip;
-      by-aes = tag_by_aes (k delivered_ciphers delivered_tags) _ _ _ _ p refl small;
-      cleartext-by-aes = opened_by_aes (k delivered_ciphers delivered_tags) _ _ _ _ p refl;
+      by_aes = tag_by_aes (k delivered_ciphers delivered_tags) _ _ _ _ p refl small;
+      cleartext_by_aes = opened_by_aes (k delivered_ciphers delivered_tags) _ _ _ _ p refl;
     }

@@ -7,4 +7,4 @@ returns g c =
     let laws = g.met.R.Keyed in
     drops m.key m.same
     (record { reflexive = laws.reflexive; symmetric = laws.symmetric; transitive = laws.transitive })
-    c.args.self.now.places.now g.R.Ending.last c.args.tick _ c.drop-past.ensures
+    c.args.self.now.places.now g.R.Ending.last c.args.tick _ c.drop_past.ensures

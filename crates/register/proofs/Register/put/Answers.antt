@@ -12,4 +12,4 @@ returns-in-Some g c =
     puts m.key m.same
     (record { reflexive = laws.reflexive; symmetric = laws.symmetric; transitive = laws.transitive })
     ps c.args.new i
-    (subst (λ k. PlaceOf m.key m.same k ps i) c.key-of.ensures c.in-Some.ensures)
+    (subst (λ k. PlaceOf m.key m.same k ps i) c.key_of.ensures c.in-Some.ensures)

@@ -4,10 +4,10 @@ use Rattle.std.proofs.lemmas.List.Sums.{count_by-le-length}
 use Rattle.register.specs.Places.{held_count}
 use Rattle.register.proofs.Scans.{counts, passes}
 use Rattle.register.proofs.places.count_held.Goals as goal
-use Rattle.register.proofs.places.count_held.Goals.{then-is-some, else-is-some}
+use Rattle.register.proofs.places.count_held.Goals.{then-is_some, else-is_some}
 
-pub overflow-add-count : goal.overflow-add-count
-overflow-add-count g c =
+pub overflow_add-count : goal.overflow_add-count
+overflow_add-count g c =
     let i = c.loop-place.place-index in
     let ps = c.args.places.now in
     omega (arith, count_by-le-length is_some (take i ps), length-take-le i ps (omega arith), c.loop-place.invariant)
@@ -18,9 +18,9 @@ loop-place-preserved g c =
     let i = c.loop-place.place-index in
     let is = c.place-item.is in
     let l = c.loop-place-test.true in
-    elim c.if-is-some.branch [
-      | then-is-some w ↦ omega (arith, w.count-is, c.loop-place.invariant, counts is_some ps i l is w.if-is-some.ensures)
-      | else-is-some w ↦ omega (arith, w.count-is, c.loop-place.invariant, passes is_some ps i l is w.if-is-some.ensures)
+    elim c.if-is_some.branch [
+      | then-is_some w ↦ omega (arith, w.count-is, c.loop-place.invariant, counts is_some ps i l is w.if-is_some.ensures)
+      | else-is_some w ↦ omega (arith, w.count-is, c.loop-place.invariant, passes is_some ps i l is w.if-is_some.ensures)
     ]
 
 pub returns : goal.returns

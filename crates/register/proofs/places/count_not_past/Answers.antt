@@ -4,10 +4,10 @@ use Rattle.std.proofs.lemmas.List.Sums.{count_by-le-length}
 use Rattle.register.specs.Places.{not_past, count_not_past}
 use Rattle.register.proofs.Scans.{counts, passes}
 use Rattle.register.proofs.places.count_not_past.Goals as goal
-use Rattle.register.proofs.places.count_not_past.Goals.{then-is-some, else-is-some}
+use Rattle.register.proofs.places.count_not_past.Goals.{then-is_some, else-is_some}
 
-pub overflow-add-count : goal.overflow-add-count
-overflow-add-count g c =
+pub overflow_add-count : goal.overflow_add-count
+overflow_add-count g c =
     let test : Option g.row.R.Denot → Bool = λ p. is_some (not_past g.R.Ending.last c.args.tick p) in
     let i = c.loop-place.place-index in
     let ps = c.args.places.now in
@@ -22,9 +22,9 @@ loop-place-preserved g c =
     let l = c.loop-place-test.true in
     let kept = is_some c.not_past.result in
     let left = ap is_some c.not_past.ensures in
-    elim c.if-is-some.branch [
-      | then-is-some w ↦ omega (arith, w.count-is, c.loop-place.invariant, counts test ps i l is (◌∙◌ {b = kept} w.if-is-some.ensures left))
-      | else-is-some w ↦ omega (arith, w.count-is, c.loop-place.invariant, passes test ps i l is (◌∙◌ {b = kept} w.if-is-some.ensures left))
+    elim c.if-is_some.branch [
+      | then-is_some w ↦ omega (arith, w.count-is, c.loop-place.invariant, counts test ps i l is (◌∙◌ {b = kept} w.if-is_some.ensures left))
+      | else-is_some w ↦ omega (arith, w.count-is, c.loop-place.invariant, passes test ps i l is (◌∙◌ {b = kept} w.if-is_some.ensures left))
     ]
 
 pub returns : goal.returns

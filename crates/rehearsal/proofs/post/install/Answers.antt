@@ -3,4 +3,4 @@ use Rattle.rehearsal.proofs.post.install.Goals as goal
 
 -- the fields of the association, the sixth argument, fit their types
 pub returns : goal.returns
-returns g c = record { spi_fits = omega (arith, c.well-formed.1.1.1.1.1.0); result = c.install.result; shown = c.kept.ensures; made = c.install.ensures }
+returns g c = record { spi_fits = omega (arith, c.well_formed.1.1.1.1.1.0); result = c.install.result; shown = c.kept.ensures; made = c.install.ensures }

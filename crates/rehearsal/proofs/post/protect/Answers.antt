@@ -8,17 +8,17 @@ use Rattle.rehearsal.proofs.post.protect.Goals as goal
 
 pub returns : goal.returns
 returns g c =
-    let blank : c.as-mut-slice.result.now ≡ replicate c.args.room 0 = c.as-mut-slice.ensures.value ∙ search rules in
-    let long : length c.protect-outcome.new.output ≡ c.in-ok-output.output.len = omega (arith, c.as-mut-slice.ensures.len, c.protect-outcome.auto.output) in
+    let blank : c.as_mut_slice.result.now ≡ replicate c.args.room 0 = c.as_mut_slice.ensures.value ∙ search rules in
+    let long : length c.protect-outcome.new.output ≡ c.in_ok-output.output.len = omega (arith, c.as_mut_slice.ensures.len, c.protect-outcome.auto.output) in
     record {
       ciphers = c.protect-outcome.ensures.ciphers;
       tags = c.protect-outcome.ensures.tags;
       step = record {
-        octets = All-from_get_or (λ x. x < 256) c.args.cleartext.now 0 (λ i _. omega (arith, c.type-inv.cleartext i));
+        octets = All-from_get_or (λ x. x < 256) c.args.cleartext.now 0 (λ i _. omega (arith, c.type_inv.cleartext i));
         apart = c.args.registers.now.associations_apart;
         result = c.protect-outcome.result;
         output = c.protect-outcome.new.output;
-        shown = subst (λ (o : List ℕ). ShowsSending c.protect-outcome.result o c.sending-answer.result) (lent_back c.protect-outcome.new.output _ _ long) c.sending-answer.ensures;
+        shown = subst (λ (o : List ℕ). ShowsSending c.protect-outcome.result o c.sending_answer.result) (lent_back c.protect-outcome.new.output _ _ long) c.sending_answer.ensures;
         made = subst (λ (o : List ℕ). Protected (record { station = c.args.station.now; contents = contents_of c.args.registers.now; ciphers = g.C.CipherBank.means c.args.ciphers.now; tags = g.T.TagBank.means c.args.tags.now; reading = c.args.reading; network = c.args.network; component = c.args.component; cleartext = c.args.cleartext.now; output = o }) c.protect-outcome.new.self c.protect-outcome.new.output c.protect-outcome.result) blank c.protect-outcome.ensures.protected;
       };
     }

@@ -1,7 +1,7 @@
-use Rattle.std.proofs.Common.{◌≡◌, ◌-◌, ◌<◌, true, false, length, take, drop, sym, refl, ap, ◌∙◌, arith}
+use Rattle.std.proofs.Common.{◌≡◌, ◌-◌, ◌<◌, true, false, length, take, drop, sym, refl, ap, arith}
 use Rattle.std.proofs.ByRecursion.{All-from_get_or}
 use Rattle.octets.specs.Numbers.{Octets}
-use Rattle.rules.specs.Layout.{part, header_in, fields_in, tag_in, sealed_message, open_message}
+use Rattle.rules.specs.Layout.{part}
 use Rattle.rules.specs.Modes.{protects}
 use Rattle.rules.proofs.Layouts.{open_laid, sealed_laid}
 use Rattle.rules.proofs.message.read.Goals as goal
@@ -11,12 +11,12 @@ returns-then-protects c =
     let xs = c.args.message.now in
     let n = length xs in
     let sealed : protects c.args.mode ≡ true = sym c.if-protects.ensures in
-    let o : Octets xs = All-from_get_or (λ x. x < 256) xs 0 (λ i _. omega (arith, c.type-inv.message i)) in
+    let o : Octets xs = All-from_get_or (λ x. x < 256) xs 0 (λ i _. omega (arith, c.type_inv.message i)) in
     let body : take (n - 4 - 20) (drop 20 xs) ≡ part 20 (n - 24) xs = ap (λ k. take k (drop 20 xs)) (omega arith) in
     let four : n - (n - 4) ≡ 4 = omega arith in
     let ending : take (n - (n - 4)) (drop (n - 4) xs) ≡ part (n - 4) 4 xs = ap (λ k. take k (drop (n - 4) xs)) four in
-    let fields = c.fields-of.ensures in
-    let tag = c.u32-at.ensures in
+    let fields = c.fields_of.ensures in
+    let tag = c.u32_at.ensures in
     let whole = sealed_laid xs o (omega arith) in
     rw sealed (
       omega arith,
@@ -34,7 +34,7 @@ pub returns : goal.returns
 returns c =
     let xs = c.args.message.now in
     let open' : protects c.args.mode ≡ false = sym c.if-protects.ensures in
-    let o : Octets xs = All-from_get_or (λ x. x < 256) xs 0 (λ i _. omega (arith, c.type-inv.message i)) in
+    let o : Octets xs = All-from_get_or (λ x. x < 256) xs 0 (λ i _. omega (arith, c.type_inv.message i)) in
     rw open' (
       omega arith,
       record {

@@ -1,5 +1,4 @@
-use Rattle.std.proofs.Common.{◌≡◌, sym, ap, ◌∙◌, arith}
-use Rattle.octets.specs.Numbers.{number}
+use Rattle.std.proofs.Common.{arith}
 use Rattle.rules.proofs.Parts.{part_more, part_next}
 use Rattle.rules.proofs.message.u48_at.Goals as goal
 

@@ -15,8 +15,8 @@ returns g c =
       ciphers = c.turn.ensures.stays;
       tags = c.tag-tag.ensures.stays;
       message = sealed_copied (turned m a f c.args.mode) (tag_under (g.T.TagBank.means c.args.tags.now) a) (turned_keeps m (g.met.C.CipherBank.lawful c.args.ciphers.now) a f c.args.mode)
-          c.copy-from-slice.new.self _ c.copy-from-slice-2.new.self c.args.cleartext.now c.turn.new.octets c.copy-from-slice-3.new.self old
+          c.copy_from_slice.new.self _ c.copy_from_slice-2.new.self c.args.cleartext.now c.turn.new.octets c.copy_from_slice-3.new.self old
           c.tag-tag.result (length c.args.cleartext.now) (length old - 4 - 20) (length old - 4) (length old - (length old - 4))
-          (c.copy-from-slice.ensures.after ∙ c.sealed-octets.ensures) (length_sealed_header c.args.header f) c.copy-from-slice-2.ensures.after refl c.requires (omega arith) (omega arith) (omega arith)
-          c.turn.ensures.octets c.tag-tag.ensures.tagged (c.copy-from-slice-3.ensures.after ∙ c.of-u32.ensures);
+          (c.copy_from_slice.ensures.after ∙ c.sealed_octets.ensures) (length_sealed_header c.args.header f) c.copy_from_slice-2.ensures.after refl c.requires (omega arith) (omega arith) (omega arith)
+          c.turn.ensures.octets c.tag-tag.ensures.tagged (c.copy_from_slice-3.ensures.after ∙ c.of_u32.ensures);
     }

@@ -5,5 +5,5 @@ use Rattle.banks.proofs.keys.Iv.octets.Goals as goal
 
 pub returns : goal.returns
 returns c =
-    let is = c.of-u128.ensures in
+    let is = c.of_u128.ensures in
     record { value = is; back = ap iv_of is ∙ iv_same c.args.self (omega arith) }

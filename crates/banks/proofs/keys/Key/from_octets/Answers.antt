@@ -10,8 +10,8 @@ returns c =
     let xs = c.args.from in
     let long : length xs ≡ 16 = search rules in
     let small : Octets xs = All-from_get_or (λ x. x < 256) xs 0 (λ i h. search rules) in
-    let high : c.to-u64.result ≡ number (take 8 xs) = c.to-u64.ensures ∙ ap number (sym (high_read xs long)) in
-    let low : c.to-u64-2.result ≡ number (drop 8 xs) = c.to-u64-2.ensures ∙ ap number (sym (low_read xs long)) in
+    let high : c.to_u64.result ≡ number (take 8 xs) = c.to_u64.ensures ∙ ap number (sym (high_read xs long)) in
+    let low : c.to_u64-2.result ≡ number (drop 8 xs) = c.to_u64-2.ensures ∙ ap number (sym (low_read xs long)) in
     record {
       value = λ i. record { high = high i; low = low i };
       back = (λ i. key_octets (record { high = high i; low = low i })) ∙ key_back xs long small;

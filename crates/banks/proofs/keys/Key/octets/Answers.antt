@@ -13,6 +13,6 @@ pub returns : goal.returns
 unfolding octets_of
 returns c =
     let k = c.args.self in
-    let is : read c.of-u64.result ++ read c.of-u64-2.result ≡ key_octets k =
-    ap₂ (λ h l. read h ++ read l) c.of-u64.ensures c.of-u64-2.ensures in
+    let is : read c.of_u64.result ++ read c.of_u64-2.result ≡ key_octets k =
+    ap₂ (λ h l. read h ++ read l) c.of_u64.ensures c.of_u64-2.ensures in
     record { value = is; back = ap key_of is ∙ key_same k (omega arith) (omega arith) }

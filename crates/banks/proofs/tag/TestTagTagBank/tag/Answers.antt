@@ -16,8 +16,8 @@ returns-then-number-eq15 c =
     let key = c.args.key.now in
     let xs = c.args.first.now in
     let ys = c.args.second.now in
-    let lead : c.to-u32-lead.result ≡ number (take 4 (key_octets key)) =
-    c.to-u32-lead.ensures
+    let lead : c.to_u32-lead.result ≡ number (take 4 (key_octets key)) =
+    c.to_u32-lead.ensures
     ∙ ap number (sym (read_from 4 0 c.octets.result (search rules)) ∙ ap (take 4) c.octets.ensures.value) in
     let is = at_15 c.args.number key (xs ++ ys) c.if-number-eq15.true in
     record {
@@ -28,7 +28,7 @@ returns-then-number-eq15 c =
             is,
             lead,
             sum_by-append (λ x. x) xs ys,
-            c.add-up.ensures,
-            c.add-up-then-number-eq15.ensures,
+            c.add_up.ensures,
+            c.add_up-then-number-eq15.ensures,
           );
     }

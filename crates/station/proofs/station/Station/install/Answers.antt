@@ -4,11 +4,11 @@ use Rattle.station.specs.States.{contents_of}
 use Rattle.station.proofs.Installs.{refuses, refuses_fields, room, takes}
 use Rattle.station.proofs.station.Station.install.Goals as goal
 
-pub returns-in-err-fields : goal.returns-in-err-fields
-returns-in-err-fields g c =
-    let p = err_from_is_err_and c.from-residual-in-err-fields.result c.from-residual-in-err-fields.ensures.1 in
+pub returns-in_err-fields : goal.returns-in_err-fields
+returns-in_err-fields g c =
+    let p = err_from_is_err_and c.from_residual-in_err-fields.result c.from_residual-in_err-fields.ensures.1 in
     refuses (g.C.CipherBank.means c.args.ciphers.now) (g.T.TagBank.means c.args.tags.now) c.args.reading c.args.association c.args.self.now (contents_of c.args.registers.now) _ _ (p.1 ∙ ap Err p.2)
-    (refuses_fields (g.C.CipherBank.means c.args.ciphers.now) (g.T.TagBank.means c.args.tags.now) c.args.reading c.args.association c.args.self.now (contents_of c.args.registers.now) c.in-ok-clock.ensures _ c.in-err-fields.ensures)
+    (refuses_fields (g.C.CipherBank.means c.args.ciphers.now) (g.T.TagBank.means c.args.tags.now) c.args.reading c.args.association c.args.self.now (contents_of c.args.registers.now) c.in_ok-clock.ensures _ c.in_err-fields.ensures)
 
 pub returns : goal.returns
 returns g c =
@@ -16,6 +16,6 @@ returns g c =
     let t = g.T.TagBank.means c.args.tags.now in
     let s = c.args.self.now in
     let before = contents_of c.args.registers.now in
-    takes m t c.args.reading c.args.association s before c.in-ok-clock.ensures c.in-ok-fields.ensures c.in-ok-place-for.ensures (contents_of c.add-association.new.self)
-    (c.add-association.ensures.added (room m t c.args.reading c.args.association s before c.in-ok-clock.ensures c.in-ok-fields.ensures c.in-ok-place-for.ensures))
-    c.add-association.ensures.others.0 c.add-association.ensures.others.1
+    takes m t c.args.reading c.args.association s before c.in_ok-clock.ensures c.in_ok-fields.ensures c.in_ok-place_for.ensures (contents_of c.add_association.new.self)
+    (c.add_association.ensures.added (room m t c.args.reading c.args.association s before c.in_ok-clock.ensures c.in_ok-fields.ensures c.in_ok-place_for.ensures))
+    c.add_association.ensures.others.0 c.add_association.ensures.others.1
