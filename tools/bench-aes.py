@@ -1,7 +1,7 @@
 #!/usr/bin/env python3
 """Times counter mode and the MAC over 1,024 octets, beside OpenSSL with and without AES instructions.
 
-    rt check bench                  # proves and builds target/bin/bench
+    (cd crates/bench && rt run)     # proves and builds crates/bench/out/bench
     tools/bench-aes.py [--count N]
 
 Needs python3 (its standard library alone) and the openssl command: apt-get install openssl
@@ -18,7 +18,7 @@ import sys
 from pathlib import Path
 
 SIZE = 1024
-PROGRAM = Path(__file__).resolve().parent.parent / "target" / "bin" / "bench"
+PROGRAM = Path(__file__).resolve().parent.parent / "crates" / "bench" / "out" / "bench"
 NO_AES = "~0x200000200000000"  # OPENSSL_ia32cap without AES instructions and PCLMULQDQ
 
 
@@ -55,7 +55,7 @@ def main():
     words.add_argument("--count", type=int, default=50000)
     words = words.parse_args()
     if not PROGRAM.exists():
-        sys.exit(f"{PROGRAM} is not there: run `rt check bench` first")
+        sys.exit(f"{PROGRAM} is not there: run `rt run` in crates/bench first")
     rate = megahertz()
     for title, mode, cipher in [("counter mode", "ctr", "aes-128-ctr"), ("MAC (CBC)", "mac", "aes-128-cbc")]:
         figures = [

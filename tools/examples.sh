@@ -1,12 +1,25 @@
 #!/bin/sh
-# Runs every examples/*.txt through the gateway, and compares what it answers with the *.out beside it; what it says of
-# each refusal on standard error is left out. Then every examples/stops/*.txt, which has a line that stops the program:
-# its answers are compared with the *.out, its messages with the *.err, and its status has to be 1.
-# The program has to be built: rt check gateway.
+# Runs the examples through the programs, each as `rt try` makes it from the sources, so that nothing has to be built before.
+# Every examples/*.txt goes through border, and those that need no more than admit, install, revoke and protect through
+# gateway too: what is answered is compared with the *.out beside it; what is said of each refusal on standard error is left
+# out. Then every examples/stops/*.txt, which has a line that stops the program: its answers are compared with the *.out,
+# its messages with the *.err, and its status has to be 1.
 cd "$(dirname "$0")/.." || exit 1
+top=$PWD
 status=0
+answers=$(mktemp)
 errors=$(mktemp)
-trap 'rm -f "$errors"' EXIT
+trap 'rm -f "$answers" "$errors"' EXIT
+
+# a program on a script: its answers, its messages and its status
+run() {
+    (cd "crates/$1" && rt try < "$top/$2") > "$answers" 2> "$errors"
+}
+
+# the messages, without what rt says, and with the script named as when its file is given
+messages() {
+    grep -vE '^(run=|checked: |interpreted: )' "$errors" | sed "s#^standard input:#$1:#"
+}
 
 # says whether an example went as expected, by the status of the comparison
 tell() {
@@ -18,13 +31,21 @@ tell() {
     fi
 }
 
+compare() {
+    run "$1" "$2"
+    [ $? -eq 0 ] && diff "${2%.txt}.out" "$answers" > /dev/null
+    tell $? "$1 $2"
+}
+
 for script in examples/*.txt; do
-    target/bin/gateway "$script" 2>/dev/null | diff "${script%.txt}.out" - >/dev/null
-    tell $? "$script"
+    compare border "$script"
+done
+for script in examples/one.txt examples/partners.txt; do
+    compare gateway "$script"
 done
 for script in examples/stops/*.txt; do
-    answers=$(target/bin/gateway "$script" 2>"$errors")
-    [ $? -eq 1 ] && [ "$answers" = "$(cat "${script%.txt}.out")" ] && diff "${script%.txt}.err" "$errors" >/dev/null
-    tell $? "$script"
+    run border "$script"
+    [ $? -eq 1 ] && diff "${script%.txt}.out" "$answers" > /dev/null && messages "$script" | diff "${script%.txt}.err" - > /dev/null
+    tell $? "border $script"
 done
 exit $status

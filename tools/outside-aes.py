@@ -1,13 +1,13 @@
 #!/usr/bin/env python3
 """Holds this repository's AES to OpenSSL's, octet by octet, on random input.
 
-    rt check vectors                # proves and builds target/bin/vectors
+    (cd crates/vectors && rt run < /dev/null)   # proves and builds crates/vectors/out/vectors
     tools/outside-aes.py [--cases N] [--seed S]
 
 Needs python3 (its standard library alone) and the openssl command: apt-get install openssl
 
 N cases (2,000 by default) of counter mode, N of the MAC, and a tenth of N each of
-ECB and CBC go through target/bin/vectors in one run, and through OpenSSL a process
+ECB and CBC go through the program vectors in one run, and through OpenSSL a process
 each. Lengths are 0 to 1,100 octets; half of the counters begin at most eight blocks
 before they wrap at 32, 64 or 128 bits. Prints counts; the status is 1 at any difference.
 """
@@ -18,7 +18,7 @@ import sys
 from pathlib import Path
 
 LONGEST = 1100
-PROGRAM = Path(__file__).resolve().parent.parent / "target" / "bin" / "vectors"
+PROGRAM = Path(__file__).resolve().parent.parent / "crates" / "vectors" / "out" / "vectors"
 
 
 def openssl(mode, key, iv, octets):
@@ -76,7 +76,7 @@ def main():
     words.add_argument("--seed", type=int, default=None)
     words = words.parse_args()
     if not PROGRAM.exists():
-        sys.exit(f"{PROGRAM} is not there: run `rt check vectors` first")
+        sys.exit(f"{PROGRAM} is not there: run `rt run < /dev/null` in crates/vectors first")
     seed = random.randrange(1 << 32) if words.seed is None else words.seed
     made = list(cases(random.Random(seed), words.cases))
     lines = "".join(line + "\n" for _, line, _ in made)

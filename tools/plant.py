@@ -5,8 +5,8 @@
 
 Each bug is a file LABEL.edit in the form of crates/CRATE/must-fail (the folder that is taken where none is named): a line
 'file:', then one or more pairs of lines 'old:' and 'new:'. Only the labels named are tried, all of them where none is.
-The copy is checked by `rt dev`, which goes over what changed, so a bug costs seconds; `rt ci` tries the must-fail edits
-again from nothing. For each bug one line says whether it is refused, after how many seconds, in which functions, and where
+The copy is checked by `rt check`, which goes over what changed, so a bug costs seconds; `rt ci` tries the must-fail
+edits again. For each bug one line says whether it is refused, after how many seconds, in which functions, and where
 first. An edit that the compiler refuses never reaches the prover: it shows nothing of a contract, and counts as bad. With
 --logs, DIR gets all that was said of each bug.
 Needs only the toolchain and python3. Exit status 1 where a bug survives or cannot be planted.
@@ -17,7 +17,8 @@ from edits import Planted, labels_in, read, write
 
 def check(root, crate):
     began = time.monotonic()
-    run = subprocess.run(["rt", "dev", crate], cwd=root, capture_output=True, text=True, env=dict(os.environ, RT_CUT="300"))
+    folder = os.path.join(root, "crates", crate)
+    run = subprocess.run(["rt", "check"], cwd=folder, capture_output=True, text=True)
     return run.returncode, (run.stdout + run.stderr).replace(root + "/", ""), round(time.monotonic() - began)
 
 # Where a check first fails: an error of the compiler or in a written proof, or a need that is left open.

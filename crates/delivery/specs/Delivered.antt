@@ -1,5 +1,5 @@
 -- What the delivered gateway sends: AES in counter mode and CBC-MAC themselves.
-use Rattle.std.specs.Prelude.{◌≡◌, ℕ, Bool, true, false, List, ◌++◌, length, drop, is_ok, Result}
+use Rattle.std.specs.Prelude.{◌≡◌, ℕ, true, false, List, ◌++◌, drop, is_ok, Result}
 use Rattle.octets.specs.Numbers.{octets_of}
 use Rattle.banks.specs.Keys.{iv_of}
 use Rattle.banks.specs.Mea1.{mea1}

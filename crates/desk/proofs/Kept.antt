@@ -1,5 +1,5 @@
 -- The edges of the answers that are kept. Assumes nothing.
-use Rattle.std.proofs.Common.{◌≡◌, ℕ, ◌-◌, ◌<◌, ◌≤◌, List, [], ◌∷◌, length, get_or, set, None, Option, refl, arith}
+use Rattle.std.proofs.Common.{◌≡◌, ℕ, ◌-◌, ◌<◌, ◌≤◌, List, [], ◌∷◌, length, set, None, Option, refl, arith}
 use Rattle.std.proofs.lemmas.List.{get_or_past}
 use Rattle.desk.specs.Answers.{answered}
 

@@ -1,5 +1,5 @@
 -- What a declaration does to the plan of its station.
-use Rattle.std.specs.Prelude.{◌≡◌, ℕ, Bool, true, false, List, [], ◌∷◌, ◌++◌, Some, None, Ok, Err, vec_items, Option, Result}
+use Rattle.std.specs.Prelude.{◌≡◌, ℕ, Bool, List, [], ◌∷◌, ◌++◌, Some, None, Ok, Err, vec_items, Option, Result}
 use Rattle.std.specs.Option.{option_map}
 use Rattle.rules.specs.declared.component.ComponentId.{ComponentId}
 use Rattle.desk.specs.declared.Declared.{Declared}

@@ -19,6 +19,7 @@ use station::protect::Sending;
 use station::registers::Registers;
 use std::fmt::Display;
 use std::io::Read;
+use std::process::ExitCode;
 use std::{env, fs, io};
 
 /// How standard input is called in a message.
@@ -438,6 +439,9 @@ fn run(rt: &HostRuntime) -> Result<(), Stopped> {
     )
 }
 
-fn main(rt: HostRuntime) -> Result<(), Stopped> {
-    run(&rt)
+fn main(rt: HostRuntime) -> ExitCode {
+    match run(&rt) {
+        Ok(()) => ExitCode::SUCCESS,
+        Err(Stopped) => ExitCode::FAILURE,
+    }
 }

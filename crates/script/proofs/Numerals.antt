@@ -1,5 +1,5 @@
 -- Reading digits from the left gives the sum of each digit times the power of its place. Assumes nothing.
-use Rattle.std.proofs.Common.{◌≡◌, ℕ, suc, ◌+◌, ◌*◌, ◌^◌, ◌<◌, ◌≤◌, true, false, cond, ◌&&◌, ltb, leb, List, [], ◌∷◌, length, get_or, drop, Some, None, sym, refl, ap, ◌∙◌, ⊎_elim, add-zero, add_assoc, mul_assoc, add-mul, mul-one, le-mul_of_pos_right, arith}
+use Rattle.std.proofs.Common.{◌≡◌, ℕ, suc, ◌+◌, ◌*◌, ◌^◌, ◌<◌, ◌≤◌, false, ◌&&◌, ltb, leb, List, length, get_or, drop, Some, None, refl, ap, ◌∙◌, ⊎_elim, add-zero, mul_assoc, add-mul, mul-one, le-mul_of_pos_right, arith}
 use native.Mathlib.Nat.{pow-succ', one-le-pow, pow-zero}
 use Rattle.std.proofs.lemmas.List.{drop_more, drop_all}
 use Rattle.std.proofs.lemmas.Bool.{cond-true, cond-false, and_from, and_left, and_right, lt-ltb, le-ltb, le-leb, lt-leb, cases_lt}

@@ -1,5 +1,5 @@
 -- The statements, each by the words that it is made of.
-use Rattle.std.specs.Prelude.{ℕ, Bool, true, false, cond, List, [], ◌∷◌, Some, None, Ok, Err, codes, Option, Result}
+use Rattle.std.specs.Prelude.{ℕ, cond, List, Some, None, Ok, codes, Option, Result}
 use Rattle.std.specs.Str.{bytes_eq}
 use Rattle.script.specs.Calls.{called_by}
 use Rattle.script.specs.Words.{word, after, from}

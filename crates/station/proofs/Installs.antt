@@ -1,18 +1,16 @@
 -- The checks of install, stage by stage.
-use Rattle.std.proofs.Common.{◌≡◌, ℕ, ◌<◌, Bool, true, false, List, ◌++◌, length, is_some, is_ok, is_err, Some, None, Ok, Err, Option, Result, sym, refl, ap, ◌∙◌, arith}
+use Rattle.std.proofs.Common.{◌≡◌, ℕ, Bool, true, false, List, ◌++◌, is_some, is_ok, Some, None, Ok, Err, Option, Result, sym, refl, ap, ◌∙◌, arith}
 use Rattle.std.proofs.lemmas.Bool.{both_ways, leb-false}
 use Rattle.banks.specs.Ciphers.{Ciphers}
 use Rattle.banks.specs.Tags.{Tags}
-use Rattle.register.specs.Places.{not_past}
 use Rattle.rules.specs.Checks.{decided}
 use Rattle.rules.specs.declared.refusal.Refusal.{Refusal}
-use Rattle.rules.proofs.Stages.{stops, passes, passed, retold, accepts}
+use Rattle.rules.proofs.Stages.{stops, passes, passed}
 use Rattle.station.specs.declared.records.SecurityAssociation.{SecurityAssociation}
 use Rattle.station.specs.declared.station.Station.{Station}
 use Rattle.station.specs.Clock.{clock_checks, read_at}
-use Rattle.station.specs.Install.{field_checks, place_checks, install_checks, Installed}
-use Rattle.station.specs.Records.{association_key, association_last}
-use Rattle.station.specs.States.{Contents, Associations, association_under, live_count, RoomForAssociation, AssociationAdded}
+use Rattle.station.specs.Install.{field_checks, place_checks, Installed}
+use Rattle.station.specs.States.{Contents, RoomForAssociation, AssociationAdded}
 
 -- no answer is both a refusal and an outcome
 pub not_both : {V R : Type 0} {P : Type 0} (answer : Result V R) (r : R) → answer ≡ Err r → is_ok answer ≡ true → P

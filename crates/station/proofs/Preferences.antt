@@ -4,9 +4,9 @@ use Rattle.std.proofs.lemmas.List.{get_or_past, take_more, take_all}
 use Rattle.std.proofs.lemmas.Bool.{true≢false, cases_Bool, cases_lt}
 use Rattle.std.proofs.lemmas.Bool.Decides.{nat_tests}
 use Rattle.register.specs.Places.{Holds, Apart}
-use Rattle.register.proofs.Lookups.{Unlike, apart_at, none_some, some_one}
+use Rattle.register.proofs.Lookups.{apart_at, none_some, some_one}
 use Rattle.station.specs.declared.records.SecurityAssociation.{SecurityAssociation}
-use Rattle.station.specs.Choice.{better, weighed, best_from, chosen, candidate, preferred, chosen_for, Candidate, PreferredTo, Chosen, SameHeld, Anywhere}
+use Rattle.station.specs.Choice.{better, weighed, best_from, chosen, candidate, preferred, chosen_for, Candidate, PreferredTo, Chosen, Anywhere}
 use Rattle.station.specs.Records.{association_key, same_association}
 use Rattle.station.specs.States.{Associations}
 

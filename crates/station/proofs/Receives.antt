@@ -1,6 +1,5 @@
 -- The checks of receive, stage by stage.
-use Rattle.std.proofs.Common.{◌≡◌, ℕ, ◌-◌, ◌<◌, ◌≤◌, Bool, true, false, cond, ltb, List, [], ◌∷◌, ◌++◌, length, take, drop, is_some, is_ok, is_err, Some, None, Ok, Err, vec_items, Result, sym, refl, ap, ◌∙◌, subst, ⊎_elim, arith}
-use borrow.Rule.Slice.PartMut.{put_mid}
+use Rattle.std.proofs.Common.{◌≡◌, ℕ, ◌-◌, ◌<◌, ◌≤◌, Bool, true, false, cond, ltb, List, [], ◌∷◌, ◌++◌, length, take, drop, is_ok, is_err, Some, Ok, Err, vec_items, Result, sym, refl, ap, ◌∙◌, subst, ⊎_elim, arith}
 use Rattle.std.proofs.lemmas.List.{take_at, drop_at, take_rest, length-drop, length-take-le}
 use Rattle.std.proofs.lemmas.Bool.{ltb-false, leb-false, le-ltb, lt-ltb, or_parts, cases_Bool, cond-true, cond-false, both_ways}
 use Rattle.rules.specs.Checks.{first, or_else, decided}
@@ -23,7 +22,7 @@ use Rattle.station.specs.declared.records.HeardKey.{HeardKey}
 use Rattle.station.specs.declared.records.SecurityAssociation.{SecurityAssociation}
 use Rattle.station.specs.Clock.{clock_checks, read_at}
 use Rattle.station.specs.declared.station.Station.{Station}
-use Rattle.station.specs.Receive.{HandOver, payload_of, fresh_checks, room_checks, hand_over_checks, Over, HandsOver, Call, heard_key, key_for, entrance_checks, open_checks, covered_in, mode_under, sealed_checks, unsealed_checks, body_checks, the_association, checks, cleartext_under, size_under, handed_under, heard_for, HandedOn, Received}
+use Rattle.station.specs.Receive.{HandOver, payload_of, fresh_checks, room_checks, hand_over_checks, Over, HandsOver, Call, heard_key, key_for, entrance_checks, open_checks, covered_in, mode_under, sealed_checks, unsealed_checks, body_checks, the_association, checks, cleartext_under, size_under, handed_under, Received}
 use Rattle.station.specs.Seal.{turned}
 use Rattle.station.specs.States.{Contents, HeardAdded, RoomForHeard}
 use Rattle.station.proofs.Installs.{done, none_of, not_both}

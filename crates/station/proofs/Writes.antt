@@ -1,9 +1,8 @@
 -- Octets written part after part: before each write the list is `done`, and then what the old list has behind it.
-use Rattle.std.proofs.Common.{◌≡◌, ℕ, ◌+◌, ◌-◌, ◌<◌, ◌≤◌, List, [], ◌∷◌, ◌++◌, length, take, drop, sym, refl, ap, ◌∙◌, arith}
+use Rattle.std.proofs.Common.{◌≡◌, ℕ, ◌+◌, ◌≤◌, List, ◌++◌, length, take, drop, sym, refl, ap, ◌∙◌, arith}
 use borrow.Rule.Slice.PartMut.{put_mid}
 use Rattle.std.proofs.lemmas.List.{append_assoc, append-nil, length-append, take_at, drop_at, drop-drop, drop_all}
 use Rattle.octets.specs.Numbers.{octets_of}
-use Rattle.octets.proofs.Widths.{length_octets}
 
 -- one more part
 pub put_next : (a k : ℕ) (done ys old xs : List ℕ) → length done ≡ a → xs ≡ done ++ drop a old → put_mid a k xs ys ≡ (done ++ ys) ++ drop (a + k) old

@@ -1,5 +1,5 @@
 -- Protect: from a component to the octets of a message.
-use Rattle.std.specs.Prelude.{◌≡◌, ℕ, ◌+◌, ◌%◌, Bool, true, false, cond, not, ◌&&◌, List, [], ◌∷◌, ◌++◌, length, drop, is_some, is_ok, is_err, Some, None, vec_items, Option, Result, ◌==◌, nat_le, nat_lt}
+use Rattle.std.specs.Prelude.{◌≡◌, ℕ, ◌+◌, ◌%◌, Bool, true, false, cond, not, ◌&&◌, List, [], ◌∷◌, ◌++◌, length, drop, is_some, is_ok, is_err, vec_items, Option, Result, ◌==◌, nat_le, nat_lt}
 use Rattle.banks.specs.Ciphers.{Ciphers}
 use Rattle.banks.specs.Tags.{Tags}
 use Rattle.rules.specs.Checks.{decided}

@@ -19,7 +19,6 @@ use Rattle.rules.specs.declared.settings.Settings.{Settings}
 use Rattle.station.specs.declared.receive.Handed.{Handed}
 use Rattle.station.specs.declared.records.HeardKey.{HeardKey}
 use Rattle.station.specs.declared.records.HeardMessage.{HeardMessage}
-use Rattle.station.specs.declared.records.Policy.{Policy}
 use Rattle.station.specs.declared.records.SecurityAssociation.{SecurityAssociation}
 use Rattle.station.specs.declared.station.Station.{Station}
 use Rattle.station.specs.Clock.{clock_checks, read_at}

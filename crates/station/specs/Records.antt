@@ -1,11 +1,8 @@
 -- The records of a station by their keys.
-use Rattle.std.specs.Prelude.{ℕ, ◌-◌, Bool, ◌&&◌, List, Option, ◌==◌, nat_lt}
-use Rattle.register.specs.Places.{lookup, not_past, count_not_past, Apart}
-use Rattle.station.specs.declared.records.Policy.{Policy}
+use Rattle.std.specs.Prelude.{ℕ, ◌-◌, Bool, ◌&&◌, ◌==◌, nat_lt}
 use Rattle.station.specs.declared.records.AssociationKey.{AssociationKey}
 use Rattle.station.specs.declared.records.SecurityAssociation.{SecurityAssociation}
 use Rattle.station.specs.declared.records.HeardKey.{HeardKey}
-use Rattle.station.specs.declared.records.HeardMessage.{HeardMessage}
 
 -- an association is held under its destination network and its SPI
 abbrev pub association_key : SecurityAssociation → AssociationKey

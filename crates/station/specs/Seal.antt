@@ -1,5 +1,5 @@
 -- The octets of protected messages, over any banks.
-use Rattle.std.specs.Prelude.{ℕ, ◌+◌, Bool, cond, List, ◌++◌, length}
+use Rattle.std.specs.Prelude.{ℕ, ◌+◌, cond, List, ◌++◌}
 use Rattle.banks.specs.Ciphers.{Ciphers, ciphered}
 use Rattle.banks.specs.Keys.{iv_of}
 use Rattle.banks.specs.Tags.{Tags, tagged}

@@ -1,5 +1,5 @@
 -- What the registers of a station hold, and what becomes of them.
-use Rattle.std.specs.Prelude.{◌≡◌, ℕ, ◌+◌, ◌<◌, min, Bool, true, false, cond, List, length, is_some, Some, None, Option, ◌==◌, nat_eq}
+use Rattle.std.specs.Prelude.{◌≡◌, ℕ, ◌+◌, ◌<◌, min, Bool, cond, List, length, is_some, Some, None, Option, ◌==◌, nat_eq}
 use Rattle.register.specs.Places.{lookup, not_past, held_count, count_not_past}
 use Rattle.station.specs.declared.records.Policy.{Policy}
 use Rattle.station.specs.declared.records.AssociationKey.{AssociationKey}

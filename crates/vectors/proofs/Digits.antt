@@ -9,12 +9,12 @@ use Rattle.vectors.specs.Hex.{digit_code, digits_of, hex_of}
 pub digits_more : (t u v xs : List ℕ) (i a b : ℕ) → i < length xs → t ≡ digits_of (take i xs)
     → u ≡ t ++ a ∷ [] → v ≡ u ++ b ∷ [] → a ≡ digit_code (get_or xs i 0 / 16) → b ≡ digit_code (get_or xs i 0 % 16)
     → v ≡ digits_of (take (i + 1) xs)
-digits_more t u v xs i a b h start first second is-a is_b =
+digits_more t u v xs i a b h start first second is_a is_b =
     let two = λ (x : ℕ). digit_code (x / 16) ∷ digit_code (x % 16) ∷ [] in
     second
     ∙ ap (λ (s : List ℕ). s ++ b ∷ []) (first ∙ ap (λ (s : List ℕ). s ++ a ∷ []) start)
     ∙ append_assoc (digits_of (take i xs)) (a ∷ []) (b ∷ [])
-    ∙ ap₂ (λ (p q : ℕ). digits_of (take i xs) ++ p ∷ q ∷ []) is-a is_b
+    ∙ ap₂ (λ (p q : ℕ). digits_of (take i xs) ++ p ∷ q ∷ []) is_a is_b
     ∙ flat_map_more two [] (take i xs) (get_or xs i 0)
     ∙ sym (ap digits_of (take_more xs i 0 h))
 

@@ -1,4 +1,3 @@
-use Rattle.std.proofs.Common.{◌<◌, length}
 use Rattle.script.proofs.Numerals.{Reads}
 use Rattle.script.proofs.numbers.numeral.Given as goal
 

@@ -1,4 +1,4 @@
-use Rattle.std.proofs.Common.{◌≡◌, ℕ, true, false, eqb, List, length, sym, refl, ap, ◌∙◌}
+use Rattle.std.proofs.Common.{◌≡◌, ℕ, eqb, List, length, sym, refl, ap, ◌∙◌}
 use Rattle.std.proofs.lemmas.Bool.{cond-true, cond-false}
 use Rattle.script.specs.Reading.{ended}
 use Rattle.script.specs.Statements.{statement, begun}
@@ -18,29 +18,29 @@ begins c =
     let w = c.next-word.ensures.value ∙ ap word c.of-words.ensures in
     λ i. begun (w i) (rest i)
 
-pub returns-then-is-empty : goal.returns-then-is-empty
+pub returns-then-is_empty : goal.returns-then-is_empty
 unfolding statement
-returns-then-is-empty c =
-    let none = ap (λ (w : List ℕ). eqb (length w) 0) (sym (first (goal.at.returns-then-is-empty c).After-next-word)) ∙ sym c.if-is-empty.ensures in
+returns-then-is_empty c =
+    let none = ap (λ (w : List ℕ). eqb (length w) 0) (sym (first (goal.at.returns-then-is_empty c).After-next-word)) ∙ sym c.if-is_empty.ensures in
     record {
       text = λ _. sym (cond-true (ended c.args.line.now) _ _ none);
-      not-text = λ no_text. absurd (no_text (c.if-not-is-text.ensures.0 refl));
+      not_text = λ no_text. absurd (no_text (c.if-not-is_text.ensures.0 refl));
     }
 
-pub returns-in-err-statement : goal.returns-in-err-statement
+pub returns-in_err-statement : goal.returns-in_err-statement
 unfolding statement
-returns-in-err-statement c =
-    let some = ap (λ (w : List ℕ). eqb (length w) 0) (sym (first (goal.at.returns-in-err-statement c).After-next-word)) ∙ sym c.if-is-empty.ensures in
+returns-in_err-statement c =
+    let some = ap (λ (w : List ℕ). eqb (length w) 0) (sym (first (goal.at.returns-in_err-statement c).After-next-word)) ∙ sym c.if-is_empty.ensures in
     record {
-      text = λ _. stops _ _ _ _ c.from-residual.ensures.1 (c.in-err-statement.ensures ∙ begins (goal.at.returns-in-err-statement c).After-begun) ∙ sym (cond-false (ended c.args.line.now) _ _ some);
-      not-text = λ no_text. absurd (no_text (c.if-not-is-text.ensures.0 refl));
+      text = λ _. stops _ _ _ _ c.from_residual.ensures.1 (c.in_err-statement.ensures ∙ begins (goal.at.returns-in_err-statement c).After-begun) ∙ sym (cond-false (ended c.args.line.now) _ _ some);
+      not_text = λ no_text. absurd (no_text (c.if-not-is_text.ensures.0 refl));
     }
 
 pub returns : goal.returns
 unfolding statement
 returns c =
-    let some = ap (λ (w : List ℕ). eqb (length w) 0) (sym (first (goal.at.returns c).After-next-word)) ∙ sym c.if-is-empty.ensures in
+    let some = ap (λ (w : List ℕ). eqb (length w) 0) (sym (first (goal.at.returns c).After-next-word)) ∙ sym c.if-is_empty.ensures in
     record {
-      text = λ _. goes _ _ _ (c.in-ok-statement.ensures ∙ begins (goal.at.returns c).After-begun) ∙ sym (cond-false (ended c.args.line.now) _ _ some);
-      not-text = λ no_text. absurd (no_text (c.if-not-is-text.ensures.0 refl));
+      text = λ _. goes _ _ _ (c.in_ok-statement.ensures ∙ begins (goal.at.returns c).After-begun) ∙ sym (cond-false (ended c.args.line.now) _ _ some);
+      not_text = λ no_text. absurd (no_text (c.if-not-is_text.ensures.0 refl));
     }

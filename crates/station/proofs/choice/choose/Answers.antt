@@ -1,5 +1,4 @@
-use Rattle.std.proofs.Common.{◌≡◌, Option, sym, ap, ◌∙◌, subst}
-use Rattle.station.specs.declared.records.SecurityAssociation.{SecurityAssociation}
+use Rattle.std.proofs.Common.{◌≡◌, sym, ap, ◌∙◌, subst}
 use Rattle.station.specs.Choice.{chosen_for, Chosen, Anywhere}
 use Rattle.station.proofs.Preferences.{chosen_law, chosen_anywhere}
 use Rattle.station.proofs.choice.choose.Goals as goal

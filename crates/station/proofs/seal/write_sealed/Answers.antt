@@ -1,4 +1,4 @@
-use Rattle.std.proofs.Common.{◌≡◌, ◌-◌, length, refl, ◌∙◌, arith}
+use Rattle.std.proofs.Common.{◌-◌, length, refl, ◌∙◌, arith}
 use Rattle.rules.proofs.Layouts.{length_sealed_header}
 use Rattle.station.specs.Seal.{turned, tag_under}
 use Rattle.station.proofs.Turns.{turned_keeps}

@@ -1,4 +1,4 @@
-use Rattle.std.proofs.Common.{◌≡◌, Some, vec_items, arith}
+use Rattle.std.proofs.Common.{Some, vec_items, arith}
 use Rattle.desk.proofs.Kept.{set_none}
 use Rattle.desk.proofs.answers.Answers.give.Goals as goal
 

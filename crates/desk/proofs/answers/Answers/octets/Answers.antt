@@ -1,4 +1,4 @@
-use Rattle.std.proofs.Common.{◌≡◌, vec_items, sym, ap, arith}
+use Rattle.std.proofs.Common.{vec_items, sym, ap, arith}
 use Rattle.std.specs.Option.{option_map}
 use Rattle.desk.proofs.Kept.{past_last}
 use Rattle.desk.proofs.answers.Answers.octets.Goals as goal

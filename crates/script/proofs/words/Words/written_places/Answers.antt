@@ -1,38 +1,38 @@
-use Rattle.std.proofs.Common.{◌≡◌, ap, ◌∙◌}
+use Rattle.std.proofs.Common.{ap, ◌∙◌}
 use Rattle.script.specs.Reading.{three_places, number_in, end_in}
 use Rattle.script.specs.Words.{after}
 use Rattle.script.proofs.Readings.{stops, goes}
 use Rattle.script.proofs.words.Words.written_places.Goals as goal
 
-pub returns-in-err-policies : goal.returns-in-err-policies
+pub returns-in_err-policies : goal.returns-in_err-policies
 unfolding three_places
-returns-in-err-policies c = stops _ _ _ _ c.from-residual.ensures.1 c.in-err-policies.ensures.value
+returns-in_err-policies c = stops _ _ _ _ c.from_residual.ensures.1 c.in_err-policies.ensures.value
 
-pub returns-in-err-associations : goal.returns-in-err-associations
+pub returns-in_err-associations : goal.returns-in_err-associations
 unfolding three_places
-returns-in-err-associations c =
-    stops _ _ _ _ c.from-residual-in-err-associations.ensures.1 (c.in-err-associations.ensures.value ∙ ap (number_in 65536) c.number.ensures.rest)
-    ∙ goes _ _ _ c.in-ok-policies.ensures.value
+returns-in_err-associations c =
+    stops _ _ _ _ c.from_residual-in_err-associations.ensures.1 (c.in_err-associations.ensures.value ∙ ap (number_in 65536) c.number.ensures.rest)
+    ∙ goes _ _ _ c.in_ok-policies.ensures.value
 
-pub returns-in-err-heard : goal.returns-in-err-heard
+pub returns-in_err-heard : goal.returns-in_err-heard
 unfolding three_places
-returns-in-err-heard c =
+returns-in_err-heard c =
     let first = c.number.ensures.rest in
     let second = c.number-2.ensures.rest ∙ ap after first in
-    stops _ _ _ _ c.from-residual-in-err-heard.ensures.1 (c.in-err-heard.ensures.value ∙ ap (number_in 65536) second)
-    ∙ goes _ _ _ (c.in-ok-associations.ensures.value ∙ ap (number_in 65536) first)
-    ∙ goes _ _ _ c.in-ok-policies.ensures.value
+    stops _ _ _ _ c.from_residual-in_err-heard.ensures.1 (c.in_err-heard.ensures.value ∙ ap (number_in 65536) second)
+    ∙ goes _ _ _ (c.in_ok-associations.ensures.value ∙ ap (number_in 65536) first)
+    ∙ goes _ _ _ c.in_ok-policies.ensures.value
 
-pub returns-in-err-end : goal.returns-in-err-end
+pub returns-in_err-end : goal.returns-in_err-end
 unfolding three_places
-returns-in-err-end c =
+returns-in_err-end c =
     let first = c.number.ensures.rest in
     let second = c.number-2.ensures.rest ∙ ap after first in
     let third = c.number-3.ensures.rest ∙ ap after second in
-    stops _ _ _ _ c.from-residual-in-err-end.ensures.1 (c.in-err-end.ensures ∙ ap end_in third)
-    ∙ goes _ _ _ (c.in-ok-heard.ensures.value ∙ ap (number_in 65536) second)
-    ∙ goes _ _ _ (c.in-ok-associations.ensures.value ∙ ap (number_in 65536) first)
-    ∙ goes _ _ _ c.in-ok-policies.ensures.value
+    stops _ _ _ _ c.from_residual-in_err-end.ensures.1 (c.in_err-end.ensures ∙ ap end_in third)
+    ∙ goes _ _ _ (c.in_ok-heard.ensures.value ∙ ap (number_in 65536) second)
+    ∙ goes _ _ _ (c.in_ok-associations.ensures.value ∙ ap (number_in 65536) first)
+    ∙ goes _ _ _ c.in_ok-policies.ensures.value
 
 pub returns : goal.returns
 unfolding three_places
@@ -40,7 +40,7 @@ returns c =
     let first = c.number.ensures.rest in
     let second = c.number-2.ensures.rest ∙ ap after first in
     let third = c.number-3.ensures.rest ∙ ap after second in
-    goes _ _ _ (c.in-ok-end.ensures ∙ ap end_in third)
-    ∙ goes _ _ _ (c.in-ok-heard.ensures.value ∙ ap (number_in 65536) second)
-    ∙ goes _ _ _ (c.in-ok-associations.ensures.value ∙ ap (number_in 65536) first)
-    ∙ goes _ _ _ c.in-ok-policies.ensures.value
+    goes _ _ _ (c.in_ok-end.ensures ∙ ap end_in third)
+    ∙ goes _ _ _ (c.in_ok-heard.ensures.value ∙ ap (number_in 65536) second)
+    ∙ goes _ _ _ (c.in_ok-associations.ensures.value ∙ ap (number_in 65536) first)
+    ∙ goes _ _ _ c.in_ok-policies.ensures.value

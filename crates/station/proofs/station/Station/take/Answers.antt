@@ -1,10 +1,10 @@
-use Rattle.std.proofs.Common.{◌≡◌, Ok, Err, refl, ap, ◌∙◌, arith, rules}
+use Rattle.std.proofs.Common.{Ok, Err, refl, ap, ◌∙◌, rules}
 use Rattle.std.proofs.lemmas.Result.{err_from_is_err_and}
 use Rattle.rules.specs.Layout.{Reads}
 use Rattle.rules.specs.declared.message.Message.TheVariants.{Open, Sealed}
 use Rattle.station.specs.Receive.{Call}
 use Rattle.station.specs.States.{contents_of}
-use Rattle.station.proofs.Receives.{away_at_clock, in_time, away_at_entrance, away_at_shape, hands_open, hands_sealed}
+use Rattle.station.proofs.Receives.{away_at_clock, away_at_entrance, away_at_shape, hands_open, hands_sealed}
 use Rattle.station.proofs.station.Station.take.Goals as goal
 
 pub returns-in_err-clock : goal.returns-in_err-clock
