@@ -21,6 +21,7 @@ use station::registers::Registers;
 use std::alloc::{AllocError, Global};
 use std::fmt::Display;
 use std::io::Read;
+use std::process::ExitCode;
 use std::{env, fs, io};
 use words::cut::word_at;
 use words::fault::{Expected, Fault};
@@ -465,6 +466,9 @@ fn run(rt: &HostRuntime) -> Result<(), Stopped> {
     )
 }
 
-fn main(rt: HostRuntime) -> Result<(), Stopped> {
-    run(&rt)
+fn main(rt: HostRuntime) -> ExitCode {
+    match run(&rt) {
+        Ok(()) => ExitCode::SUCCESS,
+        Err(Stopped) => ExitCode::FAILURE,
+    }
 }

@@ -4,4 +4,4 @@
 #[cfg(test)]
 mod faults;
 #[cfg(test)]
-mod statements;
+mod readings;

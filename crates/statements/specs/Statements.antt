@@ -1,5 +1,5 @@
 -- The statements, each by the words that it is made of; their places are counted from 0.
-use Rattle.std.specs.Prelude.{ℕ, Bool, true, false, cond, List, [], ◌∷◌, Some, None, Ok, Err, codes, Option, Result}
+use Rattle.std.specs.Prelude.{ℕ, cond, List, Some, None, Ok, Err, codes, Option, Result}
 use Rattle.std.specs.Str.{bytes_eq}
 use Rattle.words.specs.Reading.{required, next, number_at, keyword_at, field_at, switch_at, end_at, ended}
 use Rattle.words.specs.Words.{word_at}

@@ -1,5 +1,5 @@
 use Rattle.std.proofs.Common.{◌≡◌, length}
-use Rattle.gateway.proofs.read_source.Given as goal
+use Rattle.border.proofs.read_source.Given as goal
 
 -- the chunk keeps its length
 abbrev pub invariant-loop : goal.invariant-loop

@@ -2,9 +2,9 @@ use Rattle.std.proofs.Common.{rules}
 use Rattle.statements.specs.Statements.{places}
 use Rattle.statements.proofs.statement.places_in.Goals as goal
 
-pub returns-then-is-empty : goal.returns-then-is-empty
+pub returns-then-is_empty : goal.returns-then-is_empty
 unfolding places
-returns-then-is-empty c = search rules
+returns-then-is_empty c = search rules
 
 pub returns-then-is : goal.returns-then-is
 unfolding places

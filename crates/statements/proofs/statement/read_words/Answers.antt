@@ -2,9 +2,9 @@ use Rattle.std.proofs.Common.{rules}
 use Rattle.statements.specs.Statements.{statement}
 use Rattle.statements.proofs.statement.read_words.Goals as goal
 
-pub returns-then-is-empty : goal.returns-then-is-empty
+pub returns-then-is_empty : goal.returns-then-is_empty
 unfolding statement
-returns-then-is-empty c = search rules
+returns-then-is_empty c = search rules
 
 pub returns-in-Ok : goal.returns-in-Ok
 unfolding statement

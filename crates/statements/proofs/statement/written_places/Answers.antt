@@ -1,38 +1,38 @@
-use Rattle.std.proofs.Common.{◌≡◌, ◌∙◌}
+use Rattle.std.proofs.Common.{◌∙◌}
 use Rattle.words.proofs.Readings.{stops, goes}
 use Rattle.statements.specs.Statements.{three_places}
 use Rattle.statements.proofs.statement.written_places.Goals as goal
 
-pub returns-in-err-policies : goal.returns-in-err-policies
+pub returns-in_err-policies : goal.returns-in_err-policies
 unfolding three_places
-returns-in-err-policies c =
-    stops _ _ _ _ c.from-residual.ensures.1 c.in-err-policies.ensures.value
+returns-in_err-policies c =
+    stops _ _ _ _ c.from_residual.ensures.1 c.in_err-policies.ensures.value
 
-pub returns-in-err-associations : goal.returns-in-err-associations
+pub returns-in_err-associations : goal.returns-in_err-associations
 unfolding three_places
-returns-in-err-associations c =
-    stops _ _ _ _ c.from-residual-in-err-associations.ensures.1 c.in-err-associations.ensures.value
-    ∙ goes _ _ _ c.in-ok-policies.ensures.value
+returns-in_err-associations c =
+    stops _ _ _ _ c.from_residual-in_err-associations.ensures.1 c.in_err-associations.ensures.value
+    ∙ goes _ _ _ c.in_ok-policies.ensures.value
 
-pub returns-in-err-heard : goal.returns-in-err-heard
+pub returns-in_err-heard : goal.returns-in_err-heard
 unfolding three_places
-returns-in-err-heard c =
-    stops _ _ _ _ c.from-residual-in-err-heard.ensures.1 c.in-err-heard.ensures.value
-    ∙ goes _ _ _ c.in-ok-associations.ensures.value
-    ∙ goes _ _ _ c.in-ok-policies.ensures.value
+returns-in_err-heard c =
+    stops _ _ _ _ c.from_residual-in_err-heard.ensures.1 c.in_err-heard.ensures.value
+    ∙ goes _ _ _ c.in_ok-associations.ensures.value
+    ∙ goes _ _ _ c.in_ok-policies.ensures.value
 
-pub returns-in-err-end-at : goal.returns-in-err-end-at
+pub returns-in_err-end_at : goal.returns-in_err-end_at
 unfolding three_places
-returns-in-err-end-at c =
-    stops _ _ _ _ c.from-residual-in-err-end-at.ensures.1 c.in-err-end-at.ensures
-    ∙ goes _ _ _ c.in-ok-heard.ensures.value
-    ∙ goes _ _ _ c.in-ok-associations.ensures.value
-    ∙ goes _ _ _ c.in-ok-policies.ensures.value
+returns-in_err-end_at c =
+    stops _ _ _ _ c.from_residual-in_err-end_at.ensures.1 c.in_err-end_at.ensures
+    ∙ goes _ _ _ c.in_ok-heard.ensures.value
+    ∙ goes _ _ _ c.in_ok-associations.ensures.value
+    ∙ goes _ _ _ c.in_ok-policies.ensures.value
 
 pub returns : goal.returns
 unfolding three_places
 returns c =
-    goes _ _ _ c.in-ok-end-at.ensures
-    ∙ goes _ _ _ c.in-ok-heard.ensures.value
-    ∙ goes _ _ _ c.in-ok-associations.ensures.value
-    ∙ goes _ _ _ c.in-ok-policies.ensures.value
+    goes _ _ _ c.in_ok-end_at.ensures
+    ∙ goes _ _ _ c.in_ok-heard.ensures.value
+    ∙ goes _ _ _ c.in_ok-associations.ensures.value
+    ∙ goes _ _ _ c.in_ok-policies.ensures.value
