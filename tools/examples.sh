@@ -11,14 +11,15 @@ answers=$(mktemp)
 errors=$(mktemp)
 trap 'rm -f "$answers" "$errors"' EXIT
 
-# a program on a script: its answers, its messages and its status
+# a program on a script, which is given by the name of its file: its answers, its messages and its status
 run() {
-    (cd "crates/$1" && rt try < "$top/$2") > "$answers" 2> "$errors"
+    name=${2##*/}
+    (cd "crates/$1" && rt try --data "$name=$top/$2" -- "$name") > "$answers" 2> "$errors" < /dev/null
 }
 
-# the messages, without what rt says, and with the script named as when its file is given
+# the messages, without what rt says, and with the script named as from here
 messages() {
-    grep -vE '^(run=|checked: |interpreted: )' "$errors" | sed "s#^standard input:#$1:#"
+    grep -vE '^(run=|checked: |interpreted: )' "$errors" | sed "s#^${1##*/}:#$1:#"
 }
 
 # says whether an example went as expected, by the status of the comparison
