@@ -82,25 +82,25 @@ pub record Moves (c : Call) (a : Answer) (p q : Post) : Type 0 where
 -- THE STATION ITSELF
 
 -- settings stay, and the clock does not go back
-pub record Goes_on (s s' : Station) : Type 0 where
+pub record GoesOn (s s' : Station) : Type 0 where
   pub settings : s'.settings ≡ s.settings
   pub latest : s.latest ≤ s'.latest
 
-stays : (s s' : Station) → s' ≡ s → Goes_on s s'
+stays : (s s' : Station) → s' ≡ s → GoesOn s s'
 stays s s' e = record { settings = ap (λ (x : Station). x.settings) e; latest = omega (arith, ap (λ (x : Station). x.latest) e) }
 
-reads : (reading : ℕ) (s s' : Station) → s.latest ≤ reading → s' ≡ read_at reading s → Goes_on s s'
+reads : (reading : ℕ) (s s' : Station) → s.latest ≤ reading → s' ≡ read_at reading s → GoesOn s s'
 reads reading s s' l e = record { settings = ap (λ (x : Station). x.settings) e; latest = omega (arith, ap (λ (x : Station). x.latest) e) }
 
-counts : (b : Bool) (reading : ℕ) (s s' : Station) → s.latest ≤ reading → s' ≡ protect.counted b reading s → Goes_on s s'
+counts : (b : Bool) (reading : ℕ) (s s' : Station) → s.latest ≤ reading → s' ≡ protect.counted b reading s → GoesOn s s'
 counts true reading s s' l e = record { settings = ap (λ (x : Station). x.settings) e; latest = omega (arith, ap (λ (x : Station). x.latest) e) }
 counts false reading s s' l e = reads reading s s' l e
 
-install_goes : (m : Ciphers) (t : Tags) (reading : ℕ) (x : SecurityAssociation) (s s' : Station) (before after : Contents) (r : Result (Unit {0}) Refusal) → Installed m t reading x s s' before after r → Goes_on s s'
+install_goes : (m : Ciphers) (t : Tags) (reading : ℕ) (x : SecurityAssociation) (s s' : Station) (before after : Contents) (r : Result (Unit {0}) Refusal) → Installed m t reading x s s' before after r → GoesOn s s'
 install_goes m t reading x s s' before after (Ok u) i = reads reading s s' (in_order s.latest reading (passed (install_checks s m t reading x before.associations) u tt i.answer).0) (i.accepted refl).0
 install_goes m t reading x s s' before after (Err r) i = stays s s' (i.refused refl).0
 
-protect_goes : (c : protect.Call) (s' : Station) (output : List ℕ) (r : Result Sending Refusal) → protect.Protected c s' output r → Goes_on c.station s'
+protect_goes : (c : protect.Call) (s' : Station) (output : List ℕ) (r : Result Sending Refusal) → protect.Protected c s' output r → GoesOn c.station s'
 protect_goes c s' output (Ok u) i =
     let plain = is_plain (protect.policy_for c) in
     let l = in_order c.station.latest c.reading (passed (protect.checks c) u (protect.outcome c) i.answer).0 in
@@ -111,11 +111,11 @@ protect_goes c s' output (Ok u) i =
     (cases_Bool plain)
 protect_goes c s' output (Err r) i = stays c.station s' (i.refused refl).0
 
-receive_goes : (c : receive.Call) (s' : Station) (after : Contents) (output : List ℕ) (r : Result HandedOn Refusal) → receive.Received c s' after output r → Goes_on c.station s'
+receive_goes : (c : receive.Call) (s' : Station) (after : Contents) (output : List ℕ) (r : Result HandedOn Refusal) → receive.Received c s' after output r → GoesOn c.station s'
 receive_goes c s' after output (Ok h) i = reads c.reading c.station s' (in_order c.station.latest c.reading (passed (receive.checks c) h (receive.handed_under c (receive.the_association c)) i.answer).0) (i.accepted refl).station_is
 receive_goes c s' after output (Err r) i = stays c.station s' (i.refused refl).0
 
-plain_goes : (reading : ℕ) (id : ComponentId) (size : ℕ) (s s' : Station) (r : Result HandedOn Refusal) → TakenPlain reading id size s s' r → Goes_on s s'
+plain_goes : (reading : ℕ) (id : ComponentId) (size : ℕ) (s s' : Station) (r : Result HandedOn Refusal) → TakenPlain reading id size s s' r → GoesOn s s'
 plain_goes reading id size s s' (Ok h) i = reads reading s s' (in_order s.latest reading (passed (plain_checks s reading id size) h (record { component = id; mode = NoProtection; «length» = size }) i.answer).0) (i.accepted refl)
 plain_goes reading id size s s' (Err r) i = stays s s' (i.refused refl)
 
