@@ -9,3 +9,4 @@ pub mod Laws
 pub mod Stream
 pub mod KeyOctets
 pub mod Chaining
+pub mod Banks

@@ -27,6 +27,21 @@ pub trait CipherBank {
     ghost lawful: { (bank : Self) → Lawful (means bank) };
 }
 
+// A bank that is lent is a bank.
+impl<C: CipherBank> CipherBank for &mut C {
+    ghost means = { λ b. C.CipherBank.means b.now };
+
+    ghost lawful = { λ b. C.CipherBank.lawful b.now };
+
+    fn knows(&self, number: u8) -> bool {
+        (**self).knows(number)
+    }
+
+    fn run(&mut self, number: u8, key: &Key, iv: &Iv, octets: &mut [u8]) {
+        (**self).run(number, key, iv, octets);
+    }
+}
+
 // The null cipher, number 0: the octets as they are.
 #[derive(Clone, Copy)]
 pub struct NullCipher;

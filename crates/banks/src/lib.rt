@@ -8,3 +8,10 @@ pub mod keys;
 mod mac;
 pub mod pair;
 pub mod tag;
+
+// A cipher bank and a tag bank, which are lent together.
+#[derive(Clone, Copy)]
+pub struct Banks<C, T> {
+    pub ciphers: C,
+    pub tags: T,
+}

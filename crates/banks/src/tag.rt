@@ -27,6 +27,21 @@ pub trait TagBank {
     ghost lawful: { (bank : Self) → LawfulTags (means bank) };
 }
 
+// A bank that is lent is a bank.
+impl<T: TagBank> TagBank for &mut T {
+    ghost means = { λ b. T.TagBank.means b.now };
+
+    ghost lawful = { λ b. T.TagBank.lawful b.now };
+
+    fn knows(&self, number: u8) -> bool {
+        (**self).knows(number)
+    }
+
+    fn tag(&mut self, number: u8, key: &Key, first: &[u8], second: &[u8]) -> u32 {
+        (**self).tag(number, key, first, second)
+    }
+}
+
 // MIA-1, number 1: CBC-MAC over AES-128, always padded, the first four octets.
 #[derive(Clone, Copy)]
 pub struct Mia1;

@@ -17,20 +17,18 @@ pub(crate) fn play<C: CipherBank, T: TagBank>(
     heap: Global,
     station: &mut Station,
     registers: &mut Registers<'_>,
-    ciphers: &mut C,
-    tags: &mut T,
+    banks: &mut Banks<C, T>,
     call: &Call<'_>,
 ) -> Result<Answer, AllocError>
-    ensures ciphers { C.CipherBank.means ciphers.new ≡ C.CipherBank.means ciphers.old }
-    ensures tags { T.TagBank.means tags.new ≡ T.TagBank.means tags.old }
-    ensures step { IfOk result (λ a. Steps (C.CipherBank.means ciphers.old) (T.TagBank.means tags.old) call.now a (record { station = station.old; contents = contents_of registers.old }) (record { station = station.new; contents = contents_of registers.new })) }
+    ensures banks { MeanAlike C.CipherBank.means T.TagBank.means banks.old banks.new }
+    ensures step { IfOk result (λ a. Steps (C.CipherBank.means banks.old.ciphers) (T.TagBank.means banks.old.tags) call.now a (record { station = station.old; contents = contents_of registers.old }) (record { station = station.new; contents = contents_of registers.new })) }
 {
     match *call {
         Call::Admit { network, stance } => Ok(kept(station.admit(registers, network, stance))),
         Call::Install {
             reading,
             association,
-        } => Ok(install(station, registers, ciphers, tags, reading, association)),
+        } => Ok(install(station, registers, banks, reading, association)),
         Call::Revoke { destination, spi } => Ok(kept(station.revoke(registers, destination, spi))),
         Call::Protect {
             reading,
@@ -39,7 +37,7 @@ pub(crate) fn play<C: CipherBank, T: TagBank>(
             cleartext,
             room,
         } => protect(
-            heap, station, registers, ciphers, tags, reading, network, component, cleartext, room,
+            heap, station, registers, banks, reading, network, component, cleartext, room,
         ),
         Call::Receive {
             reading,
@@ -48,7 +46,7 @@ pub(crate) fn play<C: CipherBank, T: TagBank>(
             message,
             room,
         } => receive(
-            heap, station, registers, ciphers, tags, reading, network, waiting, message, room,
+            heap, station, registers, banks, reading, network, waiting, message, room,
         ),
         Call::Plain {
             reading,
@@ -66,16 +64,14 @@ pub(crate) fn turn<C: CipherBank, T: TagBank>(
     registers_a: &mut Registers<'_>,
     station_b: &mut Station,
     registers_b: &mut Registers<'_>,
-    ciphers: &mut C,
-    tags: &mut T,
+    banks: &mut Banks<C, T>,
     line: &Line<'_>,
 ) -> Result<Answer, AllocError>
-    ensures ciphers { C.CipherBank.means ciphers.new ≡ C.CipherBank.means ciphers.old }
-    ensures tags { T.TagBank.means tags.new ≡ T.TagBank.means tags.old }
-    ensures turns { IfOk result (λ a. Turns (C.CipherBank.means ciphers.old) (T.TagBank.means tags.old) (record { line = line.now; answer = a }) (both_of station_a.old registers_a.old station_b.old registers_b.old) (both_of station_a.new registers_a.new station_b.new registers_b.new)) }
+    ensures banks { MeanAlike C.CipherBank.means T.TagBank.means banks.old banks.new }
+    ensures turns { IfOk result (λ a. Turns (C.CipherBank.means banks.old.ciphers) (T.TagBank.means banks.old.tags) (record { line = line.now; answer = a }) (both_of station_a.old registers_a.old station_b.old registers_b.old) (both_of station_a.new registers_a.new station_b.new registers_b.new)) }
 {
     match line.side {
-        Side::A => play(heap, station_a, registers_a, ciphers, tags, &line.call),
-        Side::B => play(heap, station_b, registers_b, ciphers, tags, &line.call),
+        Side::A => play(heap, station_a, registers_a, banks, &line.call),
+        Side::B => play(heap, station_b, registers_b, banks, &line.call),
     }
 }

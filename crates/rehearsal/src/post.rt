@@ -30,14 +30,13 @@ pub(crate) fn kept(outcome: Result<(), Refusal>) -> Answer
 pub(crate) fn install<C: CipherBank, T: TagBank>(
     station: &mut Station,
     registers: &mut Registers<'_>,
-    ciphers: &C,
-    tags: &T,
+    banks: &Banks<C, T>,
     reading: u64,
     association: SecurityAssociation,
 ) -> Answer
-    ensures { InstallStep (C.CipherBank.means ciphers.now) (T.TagBank.means tags.now) reading association station.old station.new (contents_of registers.old) (contents_of registers.new) result }
+    ensures { InstallStep (C.CipherBank.means banks.now.ciphers) (T.TagBank.means banks.now.tags) reading association station.old station.new (contents_of registers.old) (contents_of registers.new) result }
 {
-    kept(station.install(registers, ciphers, tags, reading, association))
+    kept(station.install(registers, banks, reading, association))
 }
 
 // The answer of protect: the message is the front of the output.
@@ -87,23 +86,20 @@ pub(crate) fn protect<C: CipherBank, T: TagBank>(
     heap: Global,
     station: &mut Station,
     registers: &Registers<'_>,
-    ciphers: &mut C,
-    tags: &mut T,
+    banks: &mut Banks<C, T>,
     reading: u64,
     network: u32,
     component: ComponentId,
     cleartext: &[u8],
     room: usize,
 ) -> Result<Answer, AllocError>
-    ensures ciphers { C.CipherBank.means ciphers.new ≡ C.CipherBank.means ciphers.old }
-    ensures tags { T.TagBank.means tags.new ≡ T.TagBank.means tags.old }
-    ensures step { IfOk result (λ a. ProtectStep (C.CipherBank.means ciphers.old) (T.TagBank.means tags.old) reading network component cleartext.now room station.old station.new (contents_of registers.now) a) }
+    ensures banks { MeanAlike C.CipherBank.means T.TagBank.means banks.old banks.new }
+    ensures step { IfOk result (λ a. ProtectStep (C.CipherBank.means banks.old.ciphers) (T.TagBank.means banks.old.tags) reading network component cleartext.now room station.old station.new (contents_of registers.now) a) }
 {
     let mut output = vec![in heap; 0; room]?;
     let outcome = station.protect(
         registers,
-        ciphers,
-        tags,
+        banks,
         reading,
         network,
         component,
@@ -118,23 +114,20 @@ pub(crate) fn receive<C: CipherBank, T: TagBank>(
     heap: Global,
     station: &mut Station,
     registers: &mut Registers<'_>,
-    ciphers: &mut C,
-    tags: &mut T,
+    banks: &mut Banks<C, T>,
     reading: u64,
     network: u32,
     waiting: bool,
     message: &[u8],
     room: usize,
 ) -> Result<Answer, AllocError>
-    ensures ciphers { C.CipherBank.means ciphers.new ≡ C.CipherBank.means ciphers.old }
-    ensures tags { T.TagBank.means tags.new ≡ T.TagBank.means tags.old }
-    ensures step { IfOk result (λ a. ReceiveStep (C.CipherBank.means ciphers.old) (T.TagBank.means tags.old) reading network waiting message.now room station.old station.new (contents_of registers.old) (contents_of registers.new) a) }
+    ensures banks { MeanAlike C.CipherBank.means T.TagBank.means banks.old banks.new }
+    ensures step { IfOk result (λ a. ReceiveStep (C.CipherBank.means banks.old.ciphers) (T.TagBank.means banks.old.tags) reading network waiting message.now room station.old station.new (contents_of registers.old) (contents_of registers.new) a) }
 {
     let mut output = vec![in heap; 0; room]?;
     let Received { outcome, slip } = station.receive(
         registers,
-        ciphers,
-        tags,
+        banks,
         reading,
         network,
         waiting,

@@ -52,11 +52,10 @@ pub fn rehearse<C: CipherBank, T: TagBank>(
     places_a: Places,
     settings_b: Settings,
     places_b: Places,
-    ciphers: &mut C,
-    tags: &mut T,
+    banks: &mut Banks<C, T>,
     log: &[Line<'_>],
 ) -> Result<Vec<Answer>, AllocError>
-    ensures rehearsed { IfOk result (λ v. Rehearsed (C.CipherBank.means ciphers.old) (T.TagBank.means tags.old) (by_side settings_a settings_b) (by_side places_a places_b) log.now v.items) }
+    ensures rehearsed { IfOk result (λ v. Rehearsed (C.CipherBank.means banks.old.ciphers) (T.TagBank.means banks.old.tags) (by_side settings_a settings_b) (by_side places_a places_b) log.now v.items) }
 {
     let mut memory_a = Memory::new(heap, places_a)?;
     let mut memory_b = Memory::new(heap, places_b)?;
@@ -78,8 +77,7 @@ pub fn rehearse<C: CipherBank, T: TagBank>(
         &mut registers_a,
         &mut station_b,
         &mut registers_b,
-        ciphers,
-        tags,
+        banks,
         log,
     )
 }

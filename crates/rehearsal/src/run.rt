@@ -17,12 +17,11 @@ pub(crate) fn run<C: CipherBank, T: TagBank>(
     registers_a: &mut Registers<'_>,
     station_b: &mut Station,
     registers_b: &mut Registers<'_>,
-    ciphers: &mut C,
-    tags: &mut T,
+    banks: &mut Banks<C, T>,
     log: &[Line<'_>],
 ) -> Result<Vec<Answer>, AllocError>
     ensures answers { IfOk result (λ v. length v.items ≡ length log.now) }
-    ensures runs { IfOk result (λ v. Runs (C.CipherBank.means ciphers.old) (T.TagBank.means tags.old) (turns log.now v.items) (both_of station_a.old registers_a.old station_b.old registers_b.old) (both_of station_a.new registers_a.new station_b.new registers_b.new)) }
+    ensures runs { IfOk result (λ v. Runs (C.CipherBank.means banks.old.ciphers) (T.TagBank.means banks.old.tags) (turns log.now v.items) (both_of station_a.old registers_a.old station_b.old registers_b.old) (both_of station_a.new registers_a.new station_b.new registers_b.new)) }
 {
     let mut answers = Vec::new(heap);
     for line in log {
@@ -32,8 +31,7 @@ pub(crate) fn run<C: CipherBank, T: TagBank>(
             registers_a,
             station_b,
             registers_b,
-            ciphers,
-            tags,
+            banks,
             line,
         )?;
         answers.push(answer)?;

@@ -1,5 +1,6 @@
 // Protect: from a component to the octets of a message.
 ghost use Rattle.std.specs.Prelude.{◌≡◌, ◌≤◌, not, length};
+ghost use Rattle.banks.specs.Banks.{MeanTheSame};
 ghost use Rattle.rules.specs.Checks.{decided};
 ghost use Rattle.rules.specs.declared.refusal.Refusal.TheVariants.{NoPolicy};
 ghost use Rattle.station.specs.Forms.{form_checks};
@@ -12,6 +13,7 @@ use crate::records::Stance;
 use crate::registers::Registers;
 use crate::seal::{write_open, write_sealed};
 use crate::station::Station;
+use banks::Banks;
 use banks::cipher::CipherBank;
 use banks::tag::TagBank;
 use rules::bounds::{LONGEST_CLEARTEXT, PROTECTED_AT_ONCE};
@@ -78,8 +80,7 @@ impl Station {
     fn send<C: CipherBank, T: TagBank>(
         &mut self,
         registers: &Registers<'_>,
-        ciphers: &mut C,
-        tags: &mut T,
+        banks: &mut Banks<C, T>,
         reading: u64,
         network: u32,
         component: ComponentId,
@@ -87,9 +88,8 @@ impl Station {
         output: &mut [u8],
     ) -> Result<Sending, Refusal>
         requires { length cleartext.now ≤ 1024 }
-        ensures ciphers { C.CipherBank.means ciphers.new ≡ C.CipherBank.means ciphers.old }
-        ensures tags { T.TagBank.means tags.new ≡ T.TagBank.means tags.old }
-        ensures sends { Sends (record { station = self.old; contents = contents_of registers.now; ciphers = C.CipherBank.means ciphers.old; tags = T.TagBank.means tags.old; reading = reading; network = network; component = component; cleartext = cleartext.now; output = output.old }) self.new output.new result }
+        ensures banks { MeanTheSame C.CipherBank.means T.TagBank.means banks.old banks.new }
+        ensures sends { Sends (record { station = self.old; contents = contents_of registers.now; ciphers = C.CipherBank.means banks.old.ciphers; tags = T.TagBank.means banks.old.tags; reading = reading; network = network; component = component; cleartext = cleartext.now; output = output.old }) self.new output.new result }
     {
         let Some(association) = choose(registers, reading, self.settings.own(), network) else {
             return Err(Refusal::NoLiveAssociation);
@@ -113,8 +113,7 @@ impl Station {
             prop,
         };
         write_sealed(
-            ciphers,
-            tags,
+            banks,
             &association,
             header,
             fields,
@@ -132,17 +131,15 @@ impl Station {
     pub fn protect<C: CipherBank, T: TagBank>(
         &mut self,
         registers: &Registers<'_>,
-        ciphers: &mut C,
-        tags: &mut T,
+        banks: &mut Banks<C, T>,
         reading: u64,
         network: u32,
         component: ComponentId,
         cleartext: &[u8],
         output: &mut [u8],
     ) -> Result<Sending, Refusal>
-        ensures ciphers { C.CipherBank.means ciphers.new ≡ C.CipherBank.means ciphers.old }
-        ensures tags { T.TagBank.means tags.new ≡ T.TagBank.means tags.old }
-        ensures protected { Protected (record { station = self.old; contents = contents_of registers.now; ciphers = C.CipherBank.means ciphers.old; tags = T.TagBank.means tags.old; reading = reading; network = network; component = component; cleartext = cleartext.now; output = output.old }) self.new output.new result }
+        ensures banks { MeanTheSame C.CipherBank.means T.TagBank.means banks.old banks.new }
+        ensures protected { Protected (record { station = self.old; contents = contents_of registers.now; ciphers = C.CipherBank.means banks.old.ciphers; tags = T.TagBank.means banks.old.tags; reading = reading; network = network; component = component; cleartext = cleartext.now; output = output.old }) self.new output.new result }
     {
         self.clock(reading)?;
         form(component, cleartext.len())?;
@@ -155,7 +152,7 @@ impl Station {
                 Ok(Sending::Plain)
             }
             Stance::Mapsec => self.send(
-                registers, ciphers, tags, reading, network, component, cleartext, output,
+                registers, banks, reading, network, component, cleartext, output,
             ),
         }
     }

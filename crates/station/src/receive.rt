@@ -1,5 +1,6 @@
 // Receive: from the octets of a message to a component.
 ghost use Rattle.std.specs.Prelude.{◌≡◌, ◌<◌, true, ◌++◌, length, drop, is_ok, is_err};
+ghost use Rattle.banks.specs.Banks.{MeanTheSame};
 ghost use Rattle.rules.specs.Checks.{decided};
 ghost use Rattle.rules.specs.Layout.{header_in};
 ghost use Rattle.rules.specs.Window.{last_tick};
@@ -16,6 +17,7 @@ use crate::registers::Registers;
 use crate::seal::turn;
 use crate::slip::{Answer, with_slip};
 use crate::station::Station;
+use banks::Banks;
 use banks::cipher::CipherBank;
 use banks::tag::TagBank;
 use rules::bounds::LONGEST_CLEARTEXT;
@@ -192,8 +194,7 @@ impl Station {
     fn hand_sealed<C: CipherBank, T: TagBank>(
         &mut self,
         registers: &mut Registers<'_>,
-        ciphers: &mut C,
-        tags: &mut T,
+        banks: &mut Banks<C, T>,
         reading: u64,
         key: HeardKey,
         association: &SecurityAssociation,
@@ -202,9 +203,8 @@ impl Station {
         output: &mut [u8],
     ) -> Result<Handed, Refusal>
         requires { reading < 281474976710656 }
-        ensures ciphers { C.CipherBank.means ciphers.new ≡ C.CipherBank.means ciphers.old }
-        ensures tags { T.TagBank.means tags.new ≡ T.TagBank.means tags.old }
-        ensures hands { HandsOver (record { station = self.old; contents = contents_of registers.old; ciphers = C.CipherBank.means ciphers.old; tags = T.TagBank.means tags.old; reading = reading; key = key; association = association.now; handed = handed; message = message.now; output = output.old }) self.new (contents_of registers.new) output.new result }
+        ensures banks { MeanTheSame C.CipherBank.means T.TagBank.means banks.old banks.new }
+        ensures hands { HandsOver (record { station = self.old; contents = contents_of registers.old; ciphers = C.CipherBank.means banks.old.ciphers; tags = T.TagBank.means banks.old.tags; reading = reading; key = key; association = association.now; handed = handed; message = message.now; output = output.old }) self.new (contents_of registers.new) output.new result }
     {
         let payload = message.payload.octets;
         let needed = payload.len();
@@ -213,11 +213,11 @@ impl Station {
                 place: SEALED_HEADER,
             });
         }
-        let last = self.fresh(registers, tags, reading, key, association, message)?;
+        let last = self.fresh(registers, &mut banks.tags, reading, key, association, message)?;
         room(registers, reading, needed, output.len())?;
         output[0..needed].copy_from_slice(payload);
         turn(
-            ciphers,
+            &mut banks.ciphers,
             association,
             message.fields,
             handed.mode,
@@ -232,16 +232,14 @@ impl Station {
     fn take<C: CipherBank, T: TagBank>(
         &mut self,
         registers: &mut Registers<'_>,
-        ciphers: &mut C,
-        tags: &mut T,
+        banks: &mut Banks<C, T>,
         reading: u64,
         network: u32,
         message: &[u8],
         output: &mut [u8],
     ) -> Result<Handed, Refusal>
-        ensures ciphers { C.CipherBank.means ciphers.new ≡ C.CipherBank.means ciphers.old }
-        ensures tags { T.TagBank.means tags.new ≡ T.TagBank.means tags.old }
-        ensures received { Received (record { station = self.old; contents = contents_of registers.old; ciphers = C.CipherBank.means ciphers.old; tags = T.TagBank.means tags.old; reading = reading; network = network; message = message.now; output = output.old }) self.new (contents_of registers.new) output.new result }
+        ensures banks { MeanTheSame C.CipherBank.means T.TagBank.means banks.old banks.new }
+        ensures received { Received (record { station = self.old; contents = contents_of registers.old; ciphers = C.CipherBank.means banks.old.ciphers; tags = T.TagBank.means banks.old.tags; reading = reading; network = network; message = message.now; output = output.old }) self.new (contents_of registers.new) output.new result }
     {
         self.clock(reading)?;
         let (header, association) = self.entrance(registers, reading, network, message)?;
@@ -264,8 +262,7 @@ impl Station {
                 let key = key_of(network, header.spi, sealed.fields);
                 self.hand_sealed(
                     registers,
-                    ciphers,
-                    tags,
+                    banks,
                     reading,
                     key,
                     &association,
@@ -281,21 +278,19 @@ impl Station {
     pub fn receive<C: CipherBank, T: TagBank>(
         &mut self,
         registers: &mut Registers<'_>,
-        ciphers: &mut C,
-        tags: &mut T,
+        banks: &mut Banks<C, T>,
         reading: u64,
         network: u32,
         waiting: bool,
         message: &[u8],
         output: &mut [u8],
     ) -> Answer<Handed>
-        ensures ciphers { C.CipherBank.means ciphers.new ≡ C.CipherBank.means ciphers.old }
-        ensures tags { T.TagBank.means tags.new ≡ T.TagBank.means tags.old }
-        ensures received { Received (record { station = self.old; contents = contents_of registers.old; ciphers = C.CipherBank.means ciphers.old; tags = T.TagBank.means tags.old; reading = reading; network = network; message = message.now; output = output.old }) self.new (contents_of registers.new) output.new result.outcome }
+        ensures banks { MeanTheSame C.CipherBank.means T.TagBank.means banks.old banks.new }
+        ensures received { Received (record { station = self.old; contents = contents_of registers.old; ciphers = C.CipherBank.means banks.old.ciphers; tags = T.TagBank.means banks.old.tags; reading = reading; network = network; message = message.now; output = output.old }) self.new (contents_of registers.new) output.new result.outcome }
         ensures slip { result.slip ≡ record { number = refusal_number result.outcome; waiting = waiting } }
     {
         with_slip(
-            self.take(registers, ciphers, tags, reading, network, message, output),
+            self.take(registers, banks, reading, network, message, output),
             waiting,
         )
     }

@@ -1,9 +1,11 @@
 // Writing the octets of a message.
 ghost use Rattle.std.specs.Prelude.{◌≡◌, ◌+◌, length};
+ghost use Rattle.banks.specs.Banks.{MeanTheSame};
 ghost use Rattle.rules.specs.Layout.{open_message};
 ghost use Rattle.station.specs.Seal.{turned, sealed_under};
 
 use crate::records::SecurityAssociation;
+use banks::Banks;
 use banks::cipher::CipherBank;
 use banks::keys::Iv;
 use banks::tag::TagBank;
@@ -46,8 +48,7 @@ pub(crate) fn write_open(header: SecurityHeader, cleartext: &[u8], message: &mut
 
 // A message in mode 1 or 2.
 pub(crate) fn write_sealed<C: CipherBank, T: TagBank>(
-    ciphers: &mut C,
-    tags: &mut T,
+    banks: &mut Banks<C, T>,
     association: &SecurityAssociation,
     header: SecurityHeader,
     fields: IvFields,
@@ -56,22 +57,21 @@ pub(crate) fn write_sealed<C: CipherBank, T: TagBank>(
     message: &mut [u8],
 )
     requires { length message.old ≡ 24 + length cleartext.now }
-    ensures ciphers { C.CipherBank.means ciphers.new ≡ C.CipherBank.means ciphers.old }
-    ensures tags { T.TagBank.means tags.new ≡ T.TagBank.means tags.old }
-    ensures message { message.new ≡ sealed_under (C.CipherBank.means ciphers.old) (T.TagBank.means tags.old) association.now header fields mode cleartext.now }
+    ensures banks { MeanTheSame C.CipherBank.means T.TagBank.means banks.old banks.new }
+    ensures message { message.new ≡ sealed_under (C.CipherBank.means banks.old.ciphers) (T.TagBank.means banks.old.tags) association.now header fields mode cleartext.now }
 {
     let end = message.len();
     let tag_place = end - TAG;
     message[0..SEALED_HEADER].copy_from_slice(&header.sealed_octets(fields));
     message[SEALED_HEADER..tag_place].copy_from_slice(cleartext);
     turn(
-        ciphers,
+        &mut banks.ciphers,
         association,
         fields,
         mode,
         &mut message[SEALED_HEADER..tag_place],
     );
-    let tag = tags.tag(
+    let tag = banks.tags.tag(
         association.mia,
         &association.integrity_key,
         &message[0..SEALED_HEADER],

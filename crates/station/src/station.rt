@@ -9,6 +9,7 @@ ghost use Rattle.station.specs.States.{contents_of};
 
 use crate::records::{AssociationKey, Policy, SecurityAssociation, Stance};
 use crate::registers::Registers;
+use banks::Banks;
 use banks::cipher::CipherBank;
 use banks::tag::TagBank;
 use register::{Ending, Keyed};
@@ -99,12 +100,11 @@ impl Station {
     // The fields of an association, in their order.
     fn fields<C: CipherBank, T: TagBank>(
         &self,
-        ciphers: &C,
-        tags: &T,
+        banks: &Banks<C, T>,
         reading: u64,
         a: &SecurityAssociation,
     ) -> Result<(), Refusal>
-        ensures { result ≡ decided (field_checks self.now.settings.own (C.CipherBank.means ciphers.now) (T.TagBank.means tags.now) reading a.now) tt }
+        ensures { result ≡ decided (field_checks self.now.settings.own (C.CipherBank.means banks.now.ciphers) (T.TagBank.means banks.now.tags) reading a.now) tt }
     {
         let own = self.settings.own();
         if (a.sender >= NETWORKS) | ((a.sender != own) & (a.destination != own)) {
@@ -117,12 +117,12 @@ impl Station {
                 field: AssociationField::Destination,
             });
         }
-        if !ciphers.knows(a.mea) {
+        if !banks.ciphers.knows(a.mea) {
             return Err(Refusal::WrongAssociation {
                 field: AssociationField::Mea,
             });
         }
-        if !tags.knows(a.mia) {
+        if !banks.tags.knows(a.mia) {
             return Err(Refusal::WrongAssociation {
                 field: AssociationField::Mia,
             });
@@ -144,15 +144,14 @@ impl Station {
     pub fn install<C: CipherBank, T: TagBank>(
         &mut self,
         registers: &mut Registers<'_>,
-        ciphers: &C,
-        tags: &T,
+        banks: &Banks<C, T>,
         reading: u64,
         association: SecurityAssociation,
     ) -> Result<(), Refusal>
-        ensures { Installed (C.CipherBank.means ciphers.now) (T.TagBank.means tags.now) reading association self.old self.new (contents_of registers.old) (contents_of registers.new) result }
+        ensures { Installed (C.CipherBank.means banks.now.ciphers) (T.TagBank.means banks.now.tags) reading association self.old self.new (contents_of registers.old) (contents_of registers.new) result }
     {
         self.clock(reading)?;
-        self.fields(ciphers, tags, reading, &association)?;
+        self.fields(banks, reading, &association)?;
         place_for(registers, reading, &association)?;
         registers.add_association(association, reading);
         self.latest = reading;

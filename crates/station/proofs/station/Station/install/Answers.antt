@@ -7,13 +7,13 @@ use Rattle.station.proofs.station.Station.install.Goals as goal
 pub returns-in_err-fields : goal.returns-in_err-fields
 returns-in_err-fields g c =
     let p = err_from_is_err_and c.from_residual-in_err-fields.result c.from_residual-in_err-fields.ensures.1 in
-    refuses (g.C.CipherBank.means c.args.ciphers.now) (g.T.TagBank.means c.args.tags.now) c.args.reading c.args.association c.args.self.now (contents_of c.args.registers.now) _ _ (p.1 ∙ ap Err p.2)
-    (refuses_fields (g.C.CipherBank.means c.args.ciphers.now) (g.T.TagBank.means c.args.tags.now) c.args.reading c.args.association c.args.self.now (contents_of c.args.registers.now) c.in_ok-clock.ensures _ c.in_err-fields.ensures)
+    refuses (g.C.CipherBank.means c.args.banks.now.ciphers) (g.T.TagBank.means c.args.banks.now.tags) c.args.reading c.args.association c.args.self.now (contents_of c.args.registers.now) _ _ (p.1 ∙ ap Err p.2)
+    (refuses_fields (g.C.CipherBank.means c.args.banks.now.ciphers) (g.T.TagBank.means c.args.banks.now.tags) c.args.reading c.args.association c.args.self.now (contents_of c.args.registers.now) c.in_ok-clock.ensures _ c.in_err-fields.ensures)
 
 pub returns : goal.returns
 returns g c =
-    let m = g.C.CipherBank.means c.args.ciphers.now in
-    let t = g.T.TagBank.means c.args.tags.now in
+    let m = g.C.CipherBank.means c.args.banks.now.ciphers in
+    let t = g.T.TagBank.means c.args.banks.now.tags in
     let s = c.args.self.now in
     let before = contents_of c.args.registers.now in
     takes m t c.args.reading c.args.association s before c.in_ok-clock.ensures c.in_ok-fields.ensures c.in_ok-place_for.ensures (contents_of c.add_association.new.self)
