@@ -9,6 +9,7 @@ use Rattle.rehearsal.specs.declared.log.Answer.{Answer}
 use Rattle.rehearsal.specs.declared.log.Line.{Line}
 use Rattle.rehearsal.specs.declared.log.Side.{Side}
 use Rattle.rehearsal.specs.declared.log.Side.TheVariants.{A, B}
+use Rattle.rehearsal.specs.declared.sites.Sites.{Sites}
 use Rattle.rehearsal.specs.Steps.{Post, Steps}
 
 -- a line and its answer
@@ -29,6 +30,9 @@ pub record Both : Type 0 where
 
 abbrev pub both_of : Station → Registers → Station → Registers → Both
 both_of s r s' r' = record { a = record { station = s; contents = contents_of r }; b = record { station = s'; contents = contents_of r' } }
+
+abbrev pub sites_of : Sites → Both
+sites_of s = both_of s.a.station s.a.registers s.b.station s.b.registers
 
 -- a turn at one station, while the other stays
 abbrev pub TurnsAt : Ciphers → Tags → Side → Turn → Both → Both → Type 0

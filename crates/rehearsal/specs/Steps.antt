@@ -14,7 +14,7 @@ use Rattle.station.specs.Receive as receives
 use Rattle.station.specs.Records.{association_key, same_association}
 use Rattle.station.specs.Revoke.{Revoked}
 use Rattle.station.specs.Slips.{refusal_number, reported}
-use Rattle.station.specs.States.{Contents}
+use Rattle.station.specs.States.{Contents, contents_of}
 use Rattle.station.specs.declared.protect.Sending.{Sending}
 use Rattle.station.specs.declared.protect.Sending.TheVariants.{Plain as PlainSending, Sent as SentSending}
 use Rattle.station.specs.declared.receive.Handed.{Handed as HandedOn}
@@ -24,6 +24,7 @@ use Rattle.rehearsal.specs.declared.log.Call.{Call}
 use Rattle.rehearsal.specs.declared.log.Call.TheVariants.{Admit, Install, Revoke, Protect, Receive, Plain}
 use Rattle.rehearsal.specs.declared.log.Answer.{Answer}
 use Rattle.rehearsal.specs.declared.log.Answer.TheVariants.{Done, Refused, WentPlain, Sent, Handed}
+use Rattle.rehearsal.specs.declared.site.Site.{Site}
 
 -- the answer of admit, install and revoke
 abbrev pub kept_answer : Result (Unit {0}) Refusal → Answer
@@ -87,6 +88,9 @@ pub record PlainStep (reading : ℕ) (component : ComponentId) (waiting : Bool) 
 pub record Post : Type 0 where
   pub station : Station
   pub contents : Contents
+
+abbrev pub post_of : Site → Post
+post_of s = record { station = s.station; contents = contents_of s.registers }
 
 -- a call and its answer take a post from one state to the next, as the rules of the call say
 abbrev pub Steps : Ciphers → Tags → Call → Answer → Post → Post → Type 0

@@ -2,7 +2,7 @@
 #![tactic(auto)]
 
 pub mod log;
-mod play;
-mod post;
+mod memory;
 pub mod rehearse;
-mod run;
+mod site;
+mod sites;

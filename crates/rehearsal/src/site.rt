@@ -87,7 +87,10 @@ impl Site<'_> {
     ) -> Answer
         ensures { InstallStep (C.CipherBank.means banks.now.ciphers) (T.TagBank.means banks.now.tags) reading association self.old.station self.new.station (contents_of self.old.registers) (contents_of self.new.registers) result }
     {
-        kept(self.station.install(&mut self.registers, banks, reading, association))
+        kept(
+            self.station
+                .install(&mut self.registers, banks, reading, association),
+        )
     }
 
     // Protects into an output of `room` octets, of which the answer keeps the message.
@@ -173,20 +176,16 @@ impl Site<'_> {
         ensures step { IfOk result (λ a. Steps (C.CipherBank.means banks.old.ciphers) (T.TagBank.means banks.old.tags) call.now a (post_of self.old) (post_of self.new)) }
     {
         match *call {
-            Call::Admit { network, stance } => Ok(kept(self.station.admit(
-                &mut self.registers,
-                network,
-                stance,
-            ))),
+            Call::Admit { network, stance } => Ok(kept(
+                self.station.admit(&mut self.registers, network, stance),
+            )),
             Call::Install {
                 reading,
                 association,
             } => Ok(self.install(banks, reading, association)),
-            Call::Revoke { destination, spi } => Ok(kept(self.station.revoke(
-                &mut self.registers,
-                destination,
-                spi,
-            ))),
+            Call::Revoke { destination, spi } => Ok(kept(
+                self.station.revoke(&mut self.registers, destination, spi),
+            )),
             Call::Protect {
                 reading,
                 network,
