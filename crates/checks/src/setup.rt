@@ -3,7 +3,7 @@ use anyhow::anyhow;
 use banks::delivered::delivered;
 use banks::keys::Key;
 use rehearsal::log::{Answer, Call, Line, Side};
-use rehearsal::rehearse::{Places, rehearse};
+use rehearsal::rehearse::{Places, Setup, rehearse};
 use rules::component::ComponentId;
 use rules::profile::ProfileLine;
 use rules::settings::Settings;
@@ -131,15 +131,13 @@ pub fn answers(heap: Global, heard: usize, log: &[Line<'_>]) -> anyhow::Result<V
         associations: 256,
         heard,
     };
-    let mut banks = delivered();
-    Ok(rehearse(
-        heap,
-        settings(heap, NETWORK_A)?,
+    let a = Setup {
+        settings: settings(heap, NETWORK_A)?,
         places,
-        settings(heap, NETWORK_B)?,
+    };
+    let b = Setup {
+        settings: settings(heap, NETWORK_B)?,
         places,
-        &mut banks.ciphers,
-        &mut banks.tags,
-        log,
-    )?)
+    };
+    Ok(rehearse(heap, a, b, &mut delivered(), log)?)
 }

@@ -1,3 +1,4 @@
+pub mod Calls
 pub mod Delivered
 pub mod Reading
 pub mod Receiving

@@ -11,11 +11,12 @@ ghost use Rattle.station.specs.Receive.{Received};
 ghost use Rattle.station.specs.Revoke.{Revoked};
 ghost use Rattle.station.specs.Slips.{refusal_number};
 ghost use Rattle.station.specs.States.{contents_of};
+ghost use Rattle.delivery.specs.Calls.{protect_call, receive_call};
 ghost use Rattle.delivery.specs.Delivered.{SentByAes};
 ghost use Rattle.delivery.specs.Reading.{SentIsRead};
 ghost use Rattle.delivery.specs.Receiving.{TagByAes, OpenedByAes};
 
-use banks::delivered::{Banks, delivered};
+use banks::delivered::{Delivered, delivered};
 use rules::component::ComponentId;
 use rules::refusal::Refusal;
 use rules::settings::Settings;
@@ -30,7 +31,7 @@ use station::station::Station;
 #[derive(Drop)]
 pub struct Gateway {
     station: Station,
-    banks: Banks,
+    banks: Delivered,
 }
 
 impl Gateway {
@@ -76,13 +77,8 @@ impl Gateway {
     ) -> Result<(), Refusal>
         ensures { Installed delivered_ciphers delivered_tags reading association self.old.station self.new.station (contents_of registers.old) (contents_of registers.new) result }
     {
-        self.station.install(
-            registers,
-            &self.banks.ciphers,
-            &self.banks.tags,
-            reading,
-            association,
-        )
+        self.station
+            .install(registers, &self.banks, reading, association)
     }
 
     // Makes a message of a component for a network. Under MEA 1 and MIA 1 the octets are those of AES in counter mode and CBC-MAC,
@@ -96,14 +92,13 @@ impl Gateway {
         cleartext: &[u8],
         output: &mut [u8],
     ) -> Result<Sending, Refusal>
-        ensures protected { Protected (record { station = self.old.station; contents = contents_of registers.now; ciphers = delivered_ciphers; tags = delivered_tags; reading = reading; network = network; component = component; cleartext = cleartext.now; output = output.old }) self.new.station output.new result }
-        ensures by_aes { SentByAes (record { station = self.old.station; contents = contents_of registers.now; ciphers = delivered_ciphers; tags = delivered_tags; reading = reading; network = network; component = component; cleartext = cleartext.now; output = output.old }) output.new result }
-        ensures reads_back { SentIsRead (record { station = self.old.station; contents = contents_of registers.now; ciphers = delivered_ciphers; tags = delivered_tags; reading = reading; network = network; component = component; cleartext = cleartext.now; output = output.old }) output.new result }
+        ensures protected { Protected (protect_call self.old.station (contents_of registers.now) reading network component cleartext.now output.old) self.new.station output.new result }
+        ensures by_aes { SentByAes (protect_call self.old.station (contents_of registers.now) reading network component cleartext.now output.old) output.new result }
+        ensures reads_back { SentIsRead (protect_call self.old.station (contents_of registers.now) reading network component cleartext.now output.old) output.new result }
     {
         self.station.protect(
             registers,
-            &mut self.banks.ciphers,
-            &mut self.banks.tags,
+            &mut self.banks,
             reading,
             network,
             component,
@@ -123,15 +118,14 @@ impl Gateway {
         message: &[u8],
         output: &mut [u8],
     ) -> Answer<Handed>
-        ensures received { Received (record { station = self.old.station; contents = contents_of registers.old; ciphers = delivered_ciphers; tags = delivered_tags; reading = reading; network = network; message = message.now; output = output.old }) self.new.station (contents_of registers.new) output.new result.outcome }
+        ensures received { Received (receive_call self.old.station (contents_of registers.old) reading network message.now output.old) self.new.station (contents_of registers.new) output.new result.outcome }
         ensures slip { result.slip ≡ record { number = refusal_number result.outcome; waiting = waiting } }
-        ensures by_aes { TagByAes (record { station = self.old.station; contents = contents_of registers.old; ciphers = delivered_ciphers; tags = delivered_tags; reading = reading; network = network; message = message.now; output = output.old }) result.outcome }
-        ensures cleartext_by_aes { OpenedByAes (record { station = self.old.station; contents = contents_of registers.old; ciphers = delivered_ciphers; tags = delivered_tags; reading = reading; network = network; message = message.now; output = output.old }) output.new result.outcome }
+        ensures by_aes { TagByAes (receive_call self.old.station (contents_of registers.old) reading network message.now output.old) result.outcome }
+        ensures cleartext_by_aes { OpenedByAes (receive_call self.old.station (contents_of registers.old) reading network message.now output.old) output.new result.outcome }
     {
         self.station.receive(
             registers,
-            &mut self.banks.ciphers,
-            &mut self.banks.tags,
+            &mut self.banks,
             reading,
             network,
             waiting,
