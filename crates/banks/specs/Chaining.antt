@@ -11,8 +11,8 @@ use Rattle.std.proofs.lemmas.List.{append_assoc, length-set, length-append, leng
 use Rattle.std.proofs.lemmas.Bool.{ne_eqb}
 use Rattle.octets.specs.Numbers.{Octets, number}
 use Rattle.banks.specs.Stream.{enciphered_small}
-use Rattle.banks.specs.declared.keys.Key.{Key}
-use Rattle.banks.specs.Keys.{key_octets}
+use Rattle.keys.specs.declared.Key.{Key}
+use Rattle.keys.specs.Keys.{key_octets}
 use Rattle.octets.proofs.Widths.{number_fits}
 use Rattle.aes.proofs.Bounds.{length_aes128}
 use Rattle.aes.specs.Cipher.{schedule, cipher, aes128}

@@ -2,9 +2,9 @@
 -- Assumes nothing.
 use Rattle.std.specs.Prelude.{◌≡◌, ℕ, ◌<◌, cond, List, map, length, IfSome, Some, None, Option, ◌==◌, bit_xor, slice_index}
 use Rattle.octets.specs.Numbers.{Octets}
-use Rattle.banks.specs.declared.keys.Iv.{Iv}
-use Rattle.banks.specs.declared.keys.Key.{Key}
-use Rattle.banks.specs.Keys.{key_octets}
+use Rattle.keys.specs.declared.Iv.{Iv}
+use Rattle.keys.specs.declared.Key.{Key}
+use Rattle.keys.specs.Keys.{key_octets}
 
 -- what a cipher does
 abbrev pub Cipher : Type 0

@@ -4,8 +4,8 @@ use Rattle.std.specs.Prelude.{◌≡◌, ℕ, ◌^◌, ◌<◌, true, List, leng
 use Rattle.std.proofs.Common.{sym, subst, arith}
 use Rattle.std.proofs.lemmas.Bool.{cond_both, eqb-true, both_ways}
 use Rattle.octets.specs.Numbers.{Octets}
-use Rattle.banks.specs.declared.keys.Iv.{Iv}
-use Rattle.banks.specs.declared.keys.Key.{Key}
+use Rattle.keys.specs.declared.Iv.{Iv}
+use Rattle.keys.specs.declared.Key.{Key}
 use Rattle.banks.specs.Ciphers.{Cipher, Ciphers, Involution, Lawful, applied, ciphered, only, or_else, either}
 use Rattle.banks.specs.Tags.{Tag, Tags, LawfulTags, tag_of, tagged}
 

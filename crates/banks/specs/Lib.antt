@@ -1,4 +1,3 @@
-pub mod Keys
 pub mod Ciphers
 pub mod Tags
 pub mod Mea1
@@ -7,5 +6,4 @@ pub mod Running
 pub mod Delivered
 pub mod Laws
 pub mod Stream
-pub mod KeyOctets
 pub mod Chaining

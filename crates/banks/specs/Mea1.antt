@@ -4,10 +4,10 @@ use Rattle.std.specs.Prelude.{ℕ, ◌+◌, ◌/◌, ◌%◌, ◌^◌, List, map
 use Rattle.std.specs.List.{range_with_len}
 use Rattle.octets.specs.Numbers.{octets_of}
 use Rattle.aes.specs.Cipher.{aes128}
-use Rattle.banks.specs.declared.keys.Iv.{Iv}
-use Rattle.banks.specs.declared.keys.Key.{Key}
+use Rattle.keys.specs.declared.Iv.{Iv}
+use Rattle.keys.specs.declared.Key.{Key}
 use Rattle.banks.specs.Ciphers.{Ciphers, only}
-use Rattle.banks.specs.Keys.{key_octets}
+use Rattle.keys.specs.Keys.{key_octets}
 
 -- counter block i: the IV plus i, modulo 2^128
 unfoldable pub counter_block : Iv → ℕ → List ℕ

@@ -4,9 +4,9 @@ use Rattle.std.specs.Prelude.{◌≡◌, ℕ, zero, suc, ◌+◌, ◌-◌, ◌*�
 use Rattle.std.specs.List.{range_with_len}
 use Rattle.octets.specs.Numbers.{number}
 use Rattle.aes.specs.Cipher.{aes128}
-use Rattle.banks.specs.declared.keys.Key.{Key}
+use Rattle.keys.specs.declared.Key.{Key}
 use Rattle.banks.specs.Ciphers.{only}
-use Rattle.banks.specs.Keys.{key_octets}
+use Rattle.keys.specs.Keys.{key_octets}
 use Rattle.banks.specs.Tags.{Tags}
 
 -- how many blocks n octets make

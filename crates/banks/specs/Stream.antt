@@ -11,12 +11,12 @@ use Rattle.std.proofs.lemmas.List.{length-map}
 use Rattle.octets.specs.Numbers.{Octets}
 use Rattle.aes.specs.Cipher.{aes128}
 use Rattle.aes.proofs.Bounds.{octets_aes128, length_aes128}
-use Rattle.banks.specs.declared.keys.Iv.{Iv}
-use Rattle.banks.specs.declared.keys.Key.{Key}
+use Rattle.keys.specs.declared.Iv.{Iv}
+use Rattle.keys.specs.declared.Key.{Key}
 use Rattle.banks.specs.Ciphers.{Involution, first_octet}
-use Rattle.banks.specs.Keys.{key_octets}
+use Rattle.keys.specs.Keys.{key_octets}
 use Rattle.banks.specs.Mea1.{counter_block, output_block, stream, mea1}
-use Rattle.banks.specs.KeyOctets.{key_small}
+use Rattle.keys.specs.KeyOctets.{key_small}
 
 pub octet_at : (xs : List ℕ) → Octets xs → (i : ℕ) → slice_index xs i < 256
 octet_at [] o i = omega arith

@@ -2,9 +2,9 @@
 -- Assumes nothing.
 use Rattle.std.specs.Prelude.{ℕ, ◌+◌, ◌%◌, ◌^◌, ◌<◌, List, take, IfSome, Some, None, sum, Option}
 use Rattle.octets.specs.Numbers.{number}
-use Rattle.banks.specs.declared.keys.Key.{Key}
+use Rattle.keys.specs.declared.Key.{Key}
 use Rattle.banks.specs.Ciphers.{only}
-use Rattle.banks.specs.Keys.{key_octets}
+use Rattle.keys.specs.Keys.{key_octets}
 
 -- what a tag is of
 abbrev pub Tag : Type 0

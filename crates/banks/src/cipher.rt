@@ -7,7 +7,7 @@ ghost use Rattle.banks.specs.Laws.{only_found};
 ghost use Rattle.banks.specs.Stream.{mea1_involution, test_involution};
 
 use crate::counter::add_stream;
-use crate::keys::{Iv, Key};
+use keys::{Iv, Key};
 
 // A bank of ciphers: under a number from 0 to 15 it has a cipher or none.
 // A cipher takes key, IV and octets to as many octets, and applied twice gives the octets back.
@@ -87,7 +87,8 @@ impl CipherBank for TestCipher {
 
     fn run(&mut self, number: u8, key: &Key, _iv: &Iv, octets: &mut [u8]) {
         if number == 15 {
-            add_octet(octets, key.octets()[0]);
+            let [first, ..] = <[u8; 16]>::from(*key);
+            add_octet(octets, first);
         }
     }
 }

@@ -3,22 +3,23 @@ ghost use Rattle.std.specs.Prelude.{◌≡◌};
 ghost use Rattle.aes.specs.Cipher.{cipher};
 ghost use Rattle.banks.specs.Mea1.{counter_block, mea1};
 
-use crate::keys::{Iv, Key};
 use aes::cipher::{RoundKeys, encrypt, expand};
+use keys::{Iv, Key};
+use octets::Octets;
 
 // The enciphered counter block i.
 fn output_block(keys: &RoundKeys, iv: &Iv, i: usize) -> [u8; 16]
     ensures { result ≡ cipher keys.now.rounds (counter_block iv.now i) }
 {
     let counter = iv.counter.wrapping_add(i as u128);
-    encrypt(keys, octets::of_u128(counter))
+    encrypt(keys, counter.to_octets())
 }
 
 // Adds the key stream to the octets, in place.
 pub fn add_stream(key: &Key, iv: &Iv, octets: &mut [u8])
     ensures { octets.new ≡ mea1 key.now iv.now octets.old }
 {
-    let keys = expand(key.octets());
+    let keys = expand(<[u8; 16]>::from(*key));
     let mut block = [0; 16];
     for i in 0..octets.len() {
         if i % 16 == 0 {

@@ -4,7 +4,6 @@
 pub mod cipher;
 mod counter;
 pub mod delivered;
-pub mod keys;
 mod mac;
 pub mod pair;
 pub mod tag;

@@ -4,8 +4,9 @@ ghost use Rattle.aes.specs.Cipher.{cipher};
 ghost use Rattle.banks.specs.Mia1.{mia1};
 ghost use Rattle.banks.specs.Running.{absorbed};
 
-use crate::keys::Key;
 use aes::cipher::{RoundKeys, encrypt, expand};
+use keys::Key;
+use octets::Octets;
 
 // The chain's value with the octets of an unfinished block added to it, and how many those are.
 #[derive(Clone, Copy)]
@@ -38,7 +39,7 @@ fn absorb(keys: &RoundKeys, start: Chain, octets: &[u8]) -> Chain
 pub fn mac(key: &Key, first: &[u8], second: &[u8]) -> u32
     ensures { result ≡ mia1 key.now (first.now ++ second.now) }
 {
-    let keys = expand(key.octets());
+    let keys = expand(<[u8; 16]>::from(*key));
     let start = Chain {
         value: [0; 16],
         filled: 0,
@@ -47,5 +48,5 @@ pub fn mac(key: &Key, first: &[u8], second: &[u8]) -> u32
     let mut last = chain.value;
     last[chain.filled] ^= 0x80;
     let [a, b, c, d, ..] = encrypt(&keys, last);
-    octets::to_u32([a, b, c, d])
+    u32::from_octets([a, b, c, d])
 }

@@ -3,8 +3,8 @@ ghost use Rattle.banks.specs.Ciphers.{either};
 ghost use Rattle.std.proofs.Common.{rules};
 
 use crate::cipher::CipherBank;
-use crate::keys::{Iv, Key};
 use crate::tag::TagBank;
+use keys::{Iv, Key};
 
 // A bank of either sort: what the first means, or else the second.
 #[derive(Clone, Copy)]

@@ -3,12 +3,13 @@ ghost use Rattle.std.specs.Prelude.{◌≡◌, ℕ, ◌+◌, ◌%◌, ◌^◌, �
 ghost use Rattle.banks.specs.Mia1.{mia1_tag, Padding, mia1};
 ghost use Rattle.banks.specs.Tags.{Tags, LawfulTags, tagged, test_tag};
 ghost use Rattle.std.proofs.Common.{arith, rules};
-ghost use Rattle.banks.specs.declared.keys.Key.{Key};
+ghost use Rattle.keys.specs.declared.Key.{Key};
 ghost use Rattle.banks.specs.Chaining.{mia1_small};
 ghost use Rattle.banks.specs.Laws.{only_found};
 
-use crate::keys::Key;
 use crate::mac::mac;
+use keys::Key;
+use octets::Octets;
 
 // A bank of tags: under a number from 0 to 15 it has a tag or none. A tag takes key and octets to 32 bits.
 pub trait TagBank {
@@ -80,8 +81,8 @@ impl TagBank for TestTag {
 
     fn tag(&mut self, number: u8, key: &Key, first: &[u8], second: &[u8]) -> u32 {
         if number == 15 {
-            let [a, b, c, d, ..] = key.octets();
-            let lead = octets::to_u32([a, b, c, d]);
+            let [a, b, c, d, ..] = <[u8; 16]>::from(*key);
+            let lead = u32::from_octets([a, b, c, d]);
             add_up(add_up(lead, first), second)
         } else {
             0

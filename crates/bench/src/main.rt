@@ -5,8 +5,8 @@
 use anyhow::anyhow;
 use banks::cipher::CipherBank;
 use banks::delivered::delivered;
-use banks::keys::{Iv, Key};
 use banks::tag::TagBank;
+use keys::{Iv, Key};
 use std::env;
 
 const SIZE: usize = 1024;

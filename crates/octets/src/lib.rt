@@ -1,65 +1,80 @@
 // Numbers as octets, most significant octet first: the one place where the order of octets is decided.
-#![tactic(auto)]
+#![tactic(auto, using(crate::proofs::Widths::number_read), unfolding(crate::specs::Numbers::number, crate::specs::Numbers::octets_of))]
 
-ghost use Rattle.std.specs.Prelude.{◌≡◌, ◌^◌};
+ghost use Rattle.std.specs.Prelude.{◌≡◌, ◌^◌, ℕ};
 ghost use Rattle.octets.specs.Numbers.{octets_of, number, OctetsAndNumbers};
 
-// The four octets of a number of 32 bits.
-pub fn of_u32(n: u32) -> [u8; 4]
-    ensures { result ≡ octets_of 4 n }
-{
-    u32::to_be_bytes(n)
+// Numbers that are written in N octets.
+pub trait Octets<const N: usize>: Copy {
+    // The number that a value is.
+    ghost value: { Self → ℕ };
+
+    // Its last N octets: all of it, where it is below 256^N.
+    fn to_octets(self) -> [u8; N]
+        ensures { result ≡ octets_of N (value self) };
+
+    // The number that N octets are.
+    fn from_octets(octets: [u8; N]) -> Self
+        ensures { value result ≡ number octets.entry };
 }
 
-// The number that four octets are.
-pub fn to_u32(octets: [u8; 4]) -> u32
-    ensures { result ≡ number octets }
-{
-    u32::from_be_bytes(octets)
+impl Octets<4> for u32 {
+    ghost value = { λ n. n };
+
+    fn to_octets(self) -> [u8; 4] {
+        u32::to_be_bytes(self)
+    }
+
+    fn from_octets(octets: [u8; 4]) -> u32
+        ensures { result ≡ number octets }
+    {
+        u32::from_be_bytes(octets)
+    }
 }
 
-// The last six of the eight octets of a number: all of it, where it is below 2^48.
-pub fn of_u48(n: u64) -> [u8; 6]
-    ensures { result ≡ octets_of 6 n }
-{
-    let [_, _, a, b, c, d, e, f] = u64::to_be_bytes(n);
-    [a, b, c, d, e, f]
+// Six octets are a number of 48 bits.
+impl Octets<6> for u64 {
+    ghost value = { λ n. n };
+
+    fn to_octets(self) -> [u8; 6] {
+        let [_, _, a, b, c, d, e, f] = u64::to_be_bytes(self);
+        [a, b, c, d, e, f]
+    }
+
+    fn from_octets(octets: [u8; 6]) -> u64
+        ensures { result ≡ number octets }
+    {
+        let [a, b, c, d, e, f] = octets;
+        u64::from_be_bytes([0, 0, a, b, c, d, e, f])
+    }
 }
 
-// The number that six octets are.
-pub fn to_u48(octets: [u8; 6]) -> u64
-    ensures { result ≡ number octets }
-{
-    let [a, b, c, d, e, f] = octets;
-    u64::from_be_bytes([0, 0, a, b, c, d, e, f])
+impl Octets<8> for u64 {
+    ghost value = { λ n. n };
+
+    fn to_octets(self) -> [u8; 8] {
+        u64::to_be_bytes(self)
+    }
+
+    fn from_octets(octets: [u8; 8]) -> u64
+        ensures { result ≡ number octets }
+    {
+        u64::from_be_bytes(octets)
+    }
 }
 
-// The eight octets of a number of 64 bits.
-pub fn of_u64(n: u64) -> [u8; 8]
-    ensures { result ≡ octets_of 8 n }
-{
-    u64::to_be_bytes(n)
-}
+impl Octets<16> for u128 {
+    ghost value = { λ n. n };
 
-// The number that eight octets are.
-pub fn to_u64(octets: [u8; 8]) -> u64
-    ensures { result ≡ number octets }
-{
-    u64::from_be_bytes(octets)
-}
+    fn to_octets(self) -> [u8; 16] {
+        u128::to_be_bytes(self)
+    }
 
-// The sixteen octets of a number of 128 bits.
-pub fn of_u128(n: u128) -> [u8; 16]
-    ensures { result ≡ octets_of 16 n }
-{
-    u128::to_be_bytes(n)
-}
-
-// The number that sixteen octets are.
-pub fn to_u128(octets: [u8; 16]) -> u128
-    ensures { result ≡ number octets }
-{
-    u128::from_be_bytes(octets)
+    fn from_octets(octets: [u8; 16]) -> u128
+        ensures { result ≡ number octets }
+    {
+        u128::from_be_bytes(octets)
+    }
 }
 
 // The theorem: octets and numbers of one width stand for each other.

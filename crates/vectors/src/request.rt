@@ -5,8 +5,9 @@ use crate::modes::{cbc, expanded, sixteen};
 use aes::cipher::encrypt_block;
 use banks::cipher::CipherBank;
 use banks::delivered::delivered;
-use banks::keys::{Iv, Key};
 use banks::tag::TagBank;
+use keys::{Iv, Key};
+use octets::Octets;
 use std::alloc::Global;
 use std::str::SplitWhitespace;
 
@@ -117,23 +118,17 @@ impl Request {
             Request::Ctr { key, iv, octets } => {
                 let mut octets = octets;
                 let mut banks = delivered();
-                banks.ciphers.run(
-                    1,
-                    &Key::from_octets(key),
-                    &Iv::from_octets(iv),
-                    octets.as_mut_slice(),
-                );
+                banks
+                    .ciphers
+                    .run(1, &Key::from(key), &Iv::from(iv), octets.as_mut_slice());
                 Ok(octets)
             }
             Request::Mac { key, first, second } => {
                 let mut banks = delivered();
-                let tag = banks.tags.tag(
-                    1,
-                    &Key::from_octets(key),
-                    first.as_slice(),
-                    second.as_slice(),
-                );
-                Ok(Vec::from_slice(heap, &octets::of_u32(tag))?)
+                let tag = banks
+                    .tags
+                    .tag(1, &Key::from(key), first.as_slice(), second.as_slice());
+                Ok(Vec::from_slice(heap, &tag.to_octets())?)
             }
             Request::Expand { key } => Ok(expanded(heap, key)?),
         }

@@ -3,7 +3,7 @@ use lib.Bits.{bit_xor}
 use Rattle.std.proofs.lemmas.List.FromFn.{fill_by_all}
 use Rattle.aes.specs.Cipher.{schedule, cipher, aes128}
 use Rattle.aes.specs.declared.state.Row.{Row}
-use Rattle.banks.specs.Keys.{key_octets}
+use Rattle.keys.specs.Keys.{key_octets}
 use Rattle.banks.specs.Mea1.{counter_block, output_block, stream, mea1}
 use Rattle.banks.specs.Stream.{length_output}
 use Rattle.banks.proofs.counter.add_stream.Goals as goal
@@ -16,7 +16,7 @@ loop-i-preserved c =
     let iv = c.args.iv.now in
     let i = c.loop-i.i in
     let keys : c.expand-keys.result.rounds ≡ schedule (key_octets key) =
-    c.expand-keys.ensures ∙ ap schedule c.octets.ensures.value in
+    c.expand-keys.ensures ∙ ap schedule c.from.ensures.octets_are in
     let block : c.if-i-eq0.block ≡ output_block key iv (i / 16) =
     elim c.if-i-eq0.branch [
       | then-i-eq0 w ↦

@@ -5,4 +5,4 @@ use Rattle.banks.proofs.counter.output_block.Goals as goal
 
 pub returns : goal.returns
 unfolding counter_block
-returns c = c.encrypt.ensures ∙ ap (cipher c.args.keys.now.rounds) c.of_u128.ensures
+returns c = c.encrypt.ensures ∙ ap (cipher c.args.keys.now.rounds) c.to_octets.ensures

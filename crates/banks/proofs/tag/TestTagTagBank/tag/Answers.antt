@@ -2,8 +2,8 @@ use Rattle.std.proofs.Common.{◌≡◌, ℕ, ◌+◌, ◌%◌, ◌^◌, List, �
 use Rattle.std.proofs.lemmas.List.Sums.{sum_by-append}
 use Rattle.octets.specs.Numbers.{number}
 use Rattle.octets.proofs.Widths.{read_from}
-use Rattle.banks.specs.declared.keys.Key.{Key}
-use Rattle.banks.specs.Keys.{key_octets}
+use Rattle.keys.specs.declared.Key.{Key}
+use Rattle.keys.specs.Keys.{key_octets}
 use Rattle.banks.specs.Tags.{tagged, test_tag}
 use Rattle.banks.proofs.tag.TestTagTagBank.tag.Goals as goal
 
@@ -16,9 +16,9 @@ returns-then-number-eq15 c =
     let key = c.args.key.now in
     let xs = c.args.first.now in
     let ys = c.args.second.now in
-    let lead : c.to_u32-lead.result ≡ number (take 4 (key_octets key)) =
-    c.to_u32-lead.ensures
-    ∙ ap number (sym (read_from 4 0 c.octets.result (search rules)) ∙ ap (take 4) c.octets.ensures.value) in
+    let lead : c.from_octets-lead.result ≡ number (take 4 (key_octets key)) =
+    c.from_octets-lead.ensures
+    ∙ ap number (sym (read_from 4 0 c.from.result (search rules)) ∙ ap (take 4) c.from.ensures.octets_are) in
     let is = at_15 c.args.number key (xs ++ ys) c.if-number-eq15.true in
     record {
       stays = refl;

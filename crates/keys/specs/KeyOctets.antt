@@ -7,9 +7,9 @@ use Rattle.std.proofs.ByRecursion.{All-take, All-drop, All-append}
 use Rattle.std.proofs.lemmas.List.{length-take-le, length-drop, length-append, take_all, take_at, drop_at, take-append-drop}
 use Rattle.octets.specs.Numbers.{Octets, octets_of, number}
 use Rattle.octets.proofs.Widths.{length_octets, octets_octets, octets_back, read_from, stand_for_each_other}
-use Rattle.banks.specs.declared.keys.Key.{Key}
-use Rattle.banks.specs.declared.keys.Iv.{Iv}
-use Rattle.banks.specs.Keys.{key_octets, key_of, iv_octets, iv_of}
+use Rattle.keys.specs.declared.Key.{Key}
+use Rattle.keys.specs.declared.Iv.{Iv}
+use Rattle.keys.specs.Keys.{key_octets, key_of, iv_octets, iv_of}
 
 pub length_key : (k : Key) → length (key_octets k) ≡ 16
 length_key k =

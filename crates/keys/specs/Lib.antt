@@ -1,0 +1,2 @@
+pub mod KeyOctets
+pub mod Keys

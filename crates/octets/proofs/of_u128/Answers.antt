@@ -1,7 +1,0 @@
-use Rattle.std.proofs.Common.{div-one}
-use Rattle.octets.specs.Numbers.{octets_of}
-use Rattle.octets.proofs.of_u128.Goals as goal
-
-pub returns : goal.returns
-unfolding octets_of
-returns c = cc (div-one c.args.n)
