@@ -1,16 +1,9 @@
 -- The places up to a bound.
-use Rattle.std.proofs.Common.{◌≡◌, ℕ, ◌<◌, min, List, length, get_or, take, sym, ap, ◌∙◌, ⊎_elim, arith}
-use Rattle.std.proofs.lemmas.List.{take_all, get_or-take, get_or_past, length-take}
+use Rattle.std.proofs.Common.{◌≡◌, ℕ, ◌<◌, List, get_or, take, ◌∙◌, ⊎_elim, arith}
+use Rattle.std.proofs.lemmas.List.{get_or-take, get_or_past, length-take}
 use Rattle.std.proofs.lemmas.Bool.{cases_lt}
 
 module _ {X : Type 0} (n : ℕ) (xs : List X) where
-  pub take_used : (used : ℕ) → used ≡ min (length xs) n → take used xs ≡ take n xs
-  take_used used e =
-      ⊎_elim
-      (λ l. take_all used xs (omega arith) ∙ sym (take_all n xs (omega arith)))
-      (λ l. ap (λ k. take k xs) (omega arith))
-      (cases_lt (length xs) n)
-
   -- A front of which each place is free is free at every index.
   pub front_free : (d : X) → ((i : ℕ) → i < n → get_or xs i d ≡ d) → (i : ℕ) → get_or (take n xs) i d ≡ d
   front_free d free i =

@@ -1,7 +1,6 @@
 pub mod Changes
 pub mod Counts
-pub mod Keys
+mod Fronts
 pub mod Lookups
 pub mod Members
-mod Fronts
-mod Scans
+mod Positions

@@ -3,13 +3,8 @@ use Rattle.std.proofs.Common.{◌≡◌, ℕ, zero, suc, ◌<◌, ◌≤◌, Boo
 use Rattle.std.proofs.lemmas.List.{get_or-set_same, get_or-set_other}
 use Rattle.std.proofs.lemmas.Bool.{cases_Bool, cases_eq, cases_order, both_ways, cond-true, cond-false, ltb-false, ltb-true}
 use Rattle.register.specs.Places.{Holds, Twice, Apart, Found, lookup, held_count, not_past, Empty}
+use Rattle.std.specs.Cmp.{IsEquivalence}
 use Rattle.register.proofs.Counts.{count_none}
-
--- What a kind of record owes of the sameness of its keys.
-pub record Equivalence {K : Type 0} (same : K → K → Bool) : Type 0 where
-  pub reflexive : (k : K) → same k k ≡ true
-  pub symmetric : (j k : K) → same j k ≡ true → same k j ≡ true
-  pub transitive : (i j k : K) → same i j ≡ true → same j k ≡ true → same i k ≡ true
 
 pub none_some : {X : Type 0} {x : X} → None ≡ Some x → ⊥
 none_some e = let z : ◌≡◌ {A = ℕ} 0 1 = cc in omega arith
@@ -66,7 +61,7 @@ module _ {R K : Type 0} (key : R → K) (same : K → K → Bool) where
 
   -- Places without a record.
   module _ (ps : List (Option R)) (free : (i : ℕ) → get_or ps i None ≡ None) where
-    free_apart : Apart key same ps
+    pub free_apart : Apart key same ps
     free_apart = apart_from ps (λ i j r s l e _ _. none_some (sym (free i) ∙ e))
 
     free_lookup : (k : K) → lookup key same k ps ≡ None
@@ -80,20 +75,26 @@ module _ {R K : Type 0} (key : R → K) (same : K → K → Bool) where
     free_count = count_none is_some ps None refl free
 
     pub free_empty : Empty key same ps
-    free_empty = record { apart = free_apart; nothing = free_lookup; counted = free_count }
+    free_empty = record { nothing = free_lookup; counted = free_count }
 
-  module _ (laws : Equivalence same) where
+  module _ (laws : IsEquivalence same) where
     -- Where nothing is held under any key, nothing is held.
     pub nothing_count : (ps : List (Option R)) → ((k : K) → lookup key same k ps ≡ None) → held_count ps ≡ 0
     nothing_count ps nothing = free_count ps (λ i. free i (get_or ps i None) refl)
       where
         free : (i : ℕ) (p : Option R) → get_or ps i None ≡ p → p ≡ None
         free i None e = refl
-        free i (Some r) e = absurd (both_ways (same (key r) (key r)) (lookup_none (key r) ps (nothing (key r)) r (i, e)) (laws.reflexive (key r)))
+        free i (Some r) e = absurd (both_ways (same (key r) (key r)) (lookup_none (key r) ps (nothing (key r)) r (i, e)) (laws.refl (key r)))
+
+    reach : (i j k : K) → same i j ≡ true → same j k ≡ true → same i k ≡ true
+    reach i j k s t = laws.congr i j k s ∙ t
+
+    turn : (j k : K) → same j k ≡ true → same k j ≡ true
+    turn j k s = laws.symm k j ∙ s
 
     -- Two keys that are both the same as a third.
     joined : (i j k : K) → same k i ≡ true → same k j ≡ true → same i j ≡ true
-    joined i j k s t = laws.transitive i k j (laws.symmetric k i s) t
+    joined i j k s t = sym (laws.congr k i j s) ∙ t
 
     -- A key that is not held leaves nothing to drop.
     pub lookup_absent : (ps : List (Option R)) (own : K) → lookup key same own ps ≡ None → (k : K) → lookup key same k ps ≡ cond (same k own) None (lookup key same k ps)
@@ -133,7 +134,7 @@ module _ {R K : Type 0} (key : R → K) (same : K → K → Bool) where
 
       -- A record is held exactly where the look-up of its key answers it.
       pub holds_lookup : (r : R) → Holds ps r → lookup key same (key r) ps ≡ Some r
-      holds_lookup r h = lookup_is (key r) (Some r) (h, laws.reflexive (key r))
+      holds_lookup r h = lookup_is (key r) (Some r) (h, laws.refl (key r))
 
     -- A write of `new` under the key `own`, at the place of what stood there.
     module _ (ps : List (Option R)) (apart : Apart key same ps) (own : K) (new : Option R) (i : ℕ) (l : i < length ps) (at : get_or ps i None ≡ lookup key same own ps) (under : (r : R) → new ≡ Some r → same own (key r) ≡ true) where
@@ -155,20 +156,20 @@ module _ {R K : Type 0} (key : R → K) (same : K → K → Bool) where
           let away : b ≢ i = λ b_here. omega arith in
           both_ways (same own (key s))
           (others b s away (at_other b s away d))
-          (laws.transitive own (key r) (key s) (under r (at_place r (subst (λ x. get_or (set ps i new) x None ≡ Some r) a-here e))) t))
+          (reach own (key r) (key s) (under r (at_place r (subst (λ x. get_or (set ps i new) x None ≡ Some r) a-here e))) t))
           (λ a-away.
           ⊎_elim
           (λ b_here.
           both_ways (same own (key r))
           (others a r a-away (at_other a r a-away e))
-          (laws.transitive own (key s) (key r) (under s (at_place s (subst (λ x. get_or (set ps i new) x None ≡ Some s) b_here d))) (laws.symmetric (key r) (key s) t)))
+          (reach own (key s) (key r) (under s (at_place s (subst (λ x. get_or (set ps i new) x None ≡ Some s) b_here d))) (turn (key r) (key s) t)))
           (λ b-away. apart_at ps apart a b r s less (at_other a r a-away e) (at_other b s b-away d) t)
           (cases_eq b i))
           (cases_eq a i))
 
       -- a record of another key than the one written
       elsewhere : (k : K) → same k own ≡ false → (r : R) → same k (key r) ≡ true → same own (key r) ≡ true → ⊥
-      elsewhere k f r t u = both_ways (same k own) f (laws.transitive k (key r) own t (laws.symmetric own (key r) u))
+      elsewhere k f r t u = both_ways (same k own) f (reach k (key r) own t (turn own (key r) u))
 
       -- Under the written key stands `new`, and under each other key what stood there.
       pub write_lookup : (k : K) → lookup key same k (set ps i new) ≡ cond (same k own) new (lookup key same k ps)
@@ -185,7 +186,7 @@ module _ {R K : Type 0} (key : R → K) (same : K → K → Bool) where
               (λ j≡i. absurd (none_some (sym e ∙ at_place r (subst (λ x. get_or (set ps i new) x None ≡ Some r) j≡i h.1))))
               (λ j≢i. refuted (same k (key r)) (λ u. both_ways (same own (key r)) (others h.0 r j≢i (at_other h.0 r j≢i h.1)) (joined own (key r) k t u)))
               (cases_eq h.0 i)
-          written t (Some r) e = ((i, get_or-set_same ps i new None l ∙ e), laws.transitive k own (key r) t (under r e))
+          written t (Some r) e = ((i, get_or-set_same ps i new None l ∙ e), reach k own (key r) t (under r e))
 
           kept : same k own ≡ false → (o : Option R) → Found key same k ps o → Found key same k (set ps i new) o
           kept f None none = λ r h.
@@ -224,7 +225,7 @@ module _ {R K : Type 0} (key : R → K) (same : K → K → Bool) where
         apart_from (map (not_past last tick) ps) (λ i j r s l e d. apart_at ps apart i j r s l (left_at ps i r e).0 (left_at ps j s d).0)
 
     -- Under each key stands what stood there, unless it is past.
-    pub drop_lookup : Equivalence same → (ps : List (Option R)) → Apart key same ps → (k : K) → lookup key same k (map (not_past last tick) ps) ≡ not_past last tick (lookup key same k ps)
+    pub drop_lookup : IsEquivalence same → (ps : List (Option R)) → Apart key same ps → (k : K) → lookup key same k (map (not_past last tick) ps) ≡ not_past last tick (lookup key same k ps)
     drop_lookup laws ps apart k =
         lookup_is laws (map (not_past last tick) ps) (drop_apart ps apart) k (not_past last tick (lookup key same k ps)) (left (lookup key same k ps) (found k ps))
       where

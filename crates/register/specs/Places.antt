@@ -24,6 +24,11 @@ abbrev pub lookup : {R K : Type 0} → (R → K) → (K → K → Bool) → K �
 lookup key same k [] = None
 lookup key same k (p ∷ ps) = pick key same k p (lookup key same k ps)
 
+-- A place holds a record of the key.
+abbrev pub has_key : {R K : Type 0} → (R → K) → (K → K → Bool) → K → Option R → Bool
+has_key key same k None = false
+has_key key same k (Some r) = same k (key r)
+
 -- A look-up in plain words: a record that is held and has the key, or none where no record held has it.
 abbrev pub Found : {R K : Type 0} → (R → K) → (K → K → Bool) → K → List (Option R) → Option R → Type 0
 Found {R} key same k places found = MatchOption found ((r : R) → Holds places r → same k (key r) ≡ false) (λ r. Holds places r × (same k (key r) ≡ true))
@@ -47,7 +52,6 @@ count_not_past last tick places = count_by (λ p. is_some (not_past last tick p)
 
 -- What places without a record are.
 pub record Empty {R K : Type 0} (key : R → K) (same : K → K → Bool) (places : List (Option R)) : Type 0 where
-  pub apart : Apart key same places
   pub nothing : (k : K) → lookup key same k places ≡ None
   pub counted : held_count places ≡ 0
 
@@ -56,23 +60,29 @@ pub record Empty {R K : Type 0} (key : R → K) (same : K → K → Bool) (place
 pub record Put {R K : Type 0} (key : R → K) (same : K → K → Bool) (r : R) (before after : List (Option R)) (taken : Bool) : Type 0 where
   pub answer : taken ≡ (is_some (lookup key same (key r) before) || nat_lt (held_count before) (length before))
   pub refused : taken ≡ false → after ≡ before
-  pub stored : Apart key same before → taken ≡ true → (k : K) → lookup key same k after ≡ cond (same k (key r)) (Some r) (lookup key same k before)
+  pub stored : taken ≡ true → (k : K) → lookup key same k after ≡ cond (same k (key r)) (Some r) (lookup key same k before)
   pub counted : taken ≡ true → held_count after ≡ held_count before + cond (is_some (lookup key same (key r) before)) 0 1
   pub length_kept : length after ≡ length before
-  pub apart : Apart key same before → Apart key same after
 
 -- A removal of a key: nothing stands under it, and under each other key what stood there before.
-pub record Removed {R K : Type 0} (key : R → K) (same : K → K → Bool) (own : K) (before after : List (Option R)) (held : Bool) : Type 0 where
-  pub answer : held ≡ is_some (lookup key same own before)
-  pub absent : held ≡ false → after ≡ before
-  pub gone : Apart key same before → (k : K) → lookup key same k after ≡ cond (same k own) None (lookup key same k before)
-  pub counted : held_count after + cond held 1 0 ≡ held_count before
+-- It answers the record that stood under the key, or none, and then nothing is changed.
+pub record Removed {R K : Type 0} (key : R → K) (same : K → K → Bool) (own : K) (before after : List (Option R)) (removed : Option R) : Type 0 where
+  pub answer : removed ≡ lookup key same own before
+  pub absent : removed ≡ None → after ≡ before
+  pub gone : (k : K) → lookup key same k after ≡ cond (same k own) None (lookup key same k before)
+  pub counted : held_count after + cond (is_some removed) 1 0 ≡ held_count before
   pub length_kept : length after ≡ length before
-  pub apart : Apart key same before → Apart key same after
 
 -- A dropping of what is past at a tick: under each key what stood there, unless its last tick is before the tick.
 pub record Dropped {R K : Type 0} (key : R → K) (same : K → K → Bool) (last : R → ℕ) (tick : ℕ) (before after : List (Option R)) : Type 0 where
-  pub left : Apart key same before → (k : K) → lookup key same k after ≡ not_past last tick (lookup key same k before)
+  pub left : (k : K) → lookup key same k after ≡ not_past last tick (lookup key same k before)
   pub counted : held_count after ≡ count_not_past last tick before
   pub length_kept : length after ≡ length before
-  pub apart : Apart key same before → Apart key same after
+
+-- A put of r once what is past at a tick is dropped: taken where its key is then held or a place is then free.
+pub record PutAt {R K : Type 0} (key : R → K) (same : K → K → Bool) (last : R → ℕ) (r : R) (tick : ℕ) (before after : List (Option R)) (taken : Bool) : Type 0 where
+  pub answer : taken ≡ (is_some (not_past last tick (lookup key same (key r) before)) || nat_lt (count_not_past last tick before) (length before))
+  pub refused : taken ≡ false → Dropped key same last tick before after
+  pub stored : taken ≡ true → (k : K) → lookup key same k after ≡ cond (same k (key r)) (Some r) (not_past last tick (lookup key same k before))
+  pub counted : taken ≡ true → held_count after ≡ count_not_past last tick before + cond (is_some (not_past last tick (lookup key same (key r) before))) 0 1
+  pub length_kept : length after ≡ length before

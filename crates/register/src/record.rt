@@ -1,31 +1,20 @@
 // What a register asks of a kind of record.
-ghost use Rattle.std.specs.Prelude.{◌≡◌, ℕ, Bool, true};
+ghost use Rattle.std.specs.Prelude.{◌≡◌, ℕ};
 
-// A record with a key. Sameness of keys is an equivalence; same keys need not be equal.
+// A record with a key. Two keys are the same where `==` says so: `Eq` shows that sameness is reflexive,
+// symmetric and transitive. Same keys need not be equal.
 pub trait Keyed: Copy {
-    type Key: Copy;
+    type Key: Copy + Eq;
 
     ghost key: { Self → Self.Key };
 
-    ghost same: { Self.Key → Self.Key → Bool };
-
     // The most places that a register of this kind uses.
-    ghost most: { ℕ };
+    ghost MOST: { ℕ };
+
+    const MOST: usize;
 
     fn key_of(&self) -> Self::Key
         ensures { result ≡ key self.now };
-
-    fn has_key(&self, k: Self::Key) -> bool
-        ensures { result ≡ same k (key self.now) };
-
-    fn most_places() -> usize
-        ensures { result ≡ most };
-
-    ghost reflexive: { (k : Self.Key) → same k k ≡ true };
-
-    ghost symmetric: { (j k : Self.Key) → same j k ≡ true → same k j ≡ true };
-
-    ghost transitive: { (i j k : Self.Key) → same i j ≡ true → same j k ≡ true → same i k ≡ true };
 }
 
 // A keyed record that ends: `last` is the last tick at which it counts.

@@ -1,10 +1,7 @@
 // Bookings of seats: a small kind of record, with a key of two fields and a bound of three places.
-ghost use Rattle.std.specs.Prelude.{◌&&◌, ◌==◌};
-ghost use Rattle.std.proofs.Common.{rules};
+use crate::{Ending, Full, Keyed, Register};
 
-use crate::{Ending, Keyed, Register};
-
-#[derive(Clone, Copy)]
+#[derive(Clone, Copy, PartialEq, Eq)]
 struct Seat {
     row: u8,
     number: u8,
@@ -22,26 +19,12 @@ impl Keyed for Booking {
 
     ghost key = { λ b. b.seat };
 
-    ghost same = { λ a b. (a.row == b.row) && a.number == b.number };
+    ghost MOST = { 3 };
 
-    ghost most = { 3 };
-
-    ghost reflexive = { Prim.search rules };
-
-    ghost symmetric = { Prim.search rules };
-
-    ghost transitive = { Prim.search rules };
+    const MOST: usize = 3;
 
     fn key_of(&self) -> Seat {
         self.seat
-    }
-
-    fn has_key(&self, k: Seat) -> bool {
-        (k.row == self.seat.row) & (k.number == self.seat.number)
-    }
-
-    fn most_places() -> usize {
-        3
     }
 }
 
@@ -77,8 +60,8 @@ fn guest_at(r: &Register<Booking>, row: u8, number: u8) -> u8 {
 fn no_place(rt: HostRuntime) {
     let mut places = [];
     let mut r = Register::new(&mut places);
-    assert!(rt; !r.put(booked(1, 1, 7, 9)));
-    assert!(rt; !r.remove(Seat { row: 1, number: 1 }));
+    assert_eq!(rt; r.put(booked(1, 1, 7, 9)), Err(Full));
+    assert_eq!(rt; guest(r.remove(Seat { row: 1, number: 1 })), 0);
     assert_eq!(rt; guest_at(&r, 1, 1), 0);
     assert_eq!(rt; r.capacity(), 0);
     assert_eq!(rt; r.count(), 0);
@@ -88,13 +71,21 @@ fn no_place(rt: HostRuntime) {
 fn one_place(rt: HostRuntime) {
     let mut places = [None; 1];
     let mut r = Register::new(&mut places);
-    assert!(rt; r.put(booked(1, 2, 7, 9)));
-    assert!(rt; r.put(booked(1, 2, 8, 9)), "replaces, though full");
-    assert!(rt; !r.put(booked(2, 2, 9, 9)), "full, and another row");
-    assert!(rt; !r.put(booked(1, 1, 9, 9)), "full, and another number");
+    assert_eq!(rt; r.put(booked(1, 2, 7, 9)), Ok(()));
+    assert_eq!(rt; r.put(booked(1, 2, 8, 9)), Ok(()), "replaces, though full");
+    assert_eq!(rt;
+        r.put(booked(2, 2, 9, 9)),
+        Err(Full),
+        "full, and another row"
+    );
+    assert_eq!(rt;
+        r.put(booked(1, 1, 9, 9)),
+        Err(Full),
+        "full, and another number"
+    );
     assert_eq!(rt; guest_at(&r, 1, 2), 8);
-    assert!(rt; r.remove(Seat { row: 1, number: 2 }));
-    assert!(rt; r.put(booked(2, 2, 9, 9)));
+    assert_eq!(rt; guest(r.remove(Seat { row: 1, number: 2 })), 8);
+    assert_eq!(rt; r.put(booked(2, 2, 9, 9)), Ok(()));
     assert_eq!(rt; guest_at(&r, 2, 2), 9);
 }
 
@@ -104,10 +95,10 @@ fn beyond_the_bound(rt: HostRuntime) {
     let mut r = Register::new(&mut places);
     assert_eq!(rt; r.capacity(), 3);
     assert_eq!(rt; r.count(), 0);
-    assert!(rt; r.put(booked(1, 1, 1, 9)));
-    assert!(rt; r.put(booked(1, 2, 2, 9)));
-    assert!(rt; r.put(booked(2, 1, 3, 9)));
-    assert!(rt; !r.put(booked(2, 2, 4, 9)));
+    assert_eq!(rt; r.put(booked(1, 1, 1, 9)), Ok(()));
+    assert_eq!(rt; r.put(booked(1, 2, 2, 9)), Ok(()));
+    assert_eq!(rt; r.put(booked(2, 1, 3, 9)), Ok(()));
+    assert_eq!(rt; r.put(booked(2, 2, 4, 9)), Err(Full));
     assert_eq!(rt; r.places().len(), 3);
     assert_eq!(rt; guest(places[3]), 7);
     assert_eq!(rt; guest(places[4]), 7);
@@ -117,12 +108,25 @@ fn beyond_the_bound(rt: HostRuntime) {
 fn past_at_the_edge(rt: HostRuntime) {
     let mut places = [None; 3];
     let mut r = Register::new(&mut places);
-    assert!(rt; r.put(booked(1, 1, 1, 9)));
-    assert!(rt; r.put(booked(1, 2, 2, 10)));
-    assert!(rt; r.put(booked(2, 1, 3, 11)));
+    assert_eq!(rt; r.put(booked(1, 1, 1, 9)), Ok(()));
+    assert_eq!(rt; r.put(booked(1, 2, 2, 10)), Ok(()));
+    assert_eq!(rt; r.put(booked(2, 1, 3, 11)), Ok(()));
     assert_eq!(rt; r.count_not_past(10), 2);
     r.drop_past(10);
     assert_eq!(rt; r.count(), 2);
+    assert_eq!(rt; guest_at(&r, 1, 1), 0);
+    assert_eq!(rt; guest_at(&r, 1, 2), 2);
+}
+
+#[test]
+fn put_once_past_are_dropped(rt: HostRuntime) {
+    let mut places = [None; 1];
+    let mut r = Register::new(&mut places);
+    assert_eq!(rt; r.put_at(booked(1, 1, 1, 9), 0), Ok(()));
+    assert!(rt; !r.has_room_at(9));
+    assert_eq!(rt; r.put_at(booked(1, 2, 2, 10), 9), Err(Full));
+    assert!(rt; r.has_room_at(10));
+    assert_eq!(rt; r.put_at(booked(1, 2, 2, 10), 10), Ok(()));
     assert_eq!(rt; guest_at(&r, 1, 1), 0);
     assert_eq!(rt; guest_at(&r, 1, 2), 2);
 }

@@ -1,19 +1,13 @@
-use Rattle.register.proofs.Changes.{removes, leaves}
+use Rattle.register.proofs.Changes.{removes, apart_without}
 use Rattle.register.proofs.Register.remove.Goals as goal
 
-pub returns-in-Some : goal.returns-in-Some
-returns-in-Some g c =
-    let m = g.R.Keyed in
-    let laws = g.met.R.Keyed in
-    let at = c.in-Some.ensures in
-    removes m.key m.same
-    (record { reflexive = laws.reflexive; symmetric = laws.symmetric; transitive = laws.transitive })
-    c.args.self.now.places.now c.args.key c.in-Some.i at.0 at.1
+pub invariant_of-self : goal.invariant_of-self
+invariant_of-self g c =
+    let self = c.args.self.now in
+    record { apart = apart_without g.R.Keyed.key g.R.Key.PartialEq.eq g.met.R.Key.Eq.laws self.places.now self.apart c.args.key c.in_ok-i.i c.in_ok-i.ensures.0 c.take.new.self c.take.ensures.after }
 
-pub returns-in-None : goal.returns-in-None
-returns-in-None g c =
-    let m = g.R.Keyed in
-    let laws = g.met.R.Keyed in
-    leaves m.key m.same
-    (record { reflexive = laws.reflexive; symmetric = laws.symmetric; transitive = laws.transitive })
-    c.args.self.now.places.now c.args.key c.in-None.ensures
+pub returns : goal.returns
+returns g c =
+    let self = c.args.self.now in
+    removes g.R.Keyed.key g.R.Key.PartialEq.eq g.met.R.Key.Eq.laws self.places.now self.apart c.args.key c.in_ok-i.i c.in_ok-i.ensures.0 c.take.new.self c.take.ensures.after
+    c.in_ok-i.ensures.1 c.take.result _ c.take.ensures.value
