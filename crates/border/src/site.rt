@@ -1,6 +1,6 @@
 // The stations of a run. Each is made at its first call, with the places that it was declared with.
 use crate::answers::{Reply, done, handed, sent};
-use banks::keys::Key;
+use keys::Key;
 use calls::{Algorithms, Call, Lifetime, Parties};
 use delivery::Gateway;
 use desk::Declared;

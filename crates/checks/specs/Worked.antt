@@ -4,7 +4,7 @@ use Rattle.banks.specs.Ciphers.{null_cipher}
 use Rattle.banks.specs.Delivered.{delivered_ciphers, delivered_tags}
 use Rattle.banks.specs.Mia1.{mac_blocks}
 use Rattle.banks.specs.Tags.{test_tag}
-use Rattle.banks.specs.declared.keys.Key.{Key}
+use Rattle.keys.specs.declared.Key.{Key}
 use Rattle.rules.specs.Checks.{first}
 use Rattle.rules.specs.Layout.{iv_octets}
 use Rattle.rules.specs.Profiles.{mode_in}

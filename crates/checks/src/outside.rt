@@ -2,7 +2,7 @@
 // A line of the file is READING SPI KIND CODE MEK MIK PROP CLEARTEXT MESSAGE, numbers and octets as in the command language.
 use crate::setup::{INVOKE, answers, association, beginning, protects, receives};
 use anyhow::anyhow;
-use banks::keys::Key;
+use keys::Key;
 use rehearsal::log::Answer;
 use rules::component::ComponentId;
 use station::records::SecurityAssociation;

@@ -1,7 +1,7 @@
 // Messages that come again, and a memory that is full.
 use crate::setup::{INVOKE, answers, association, beginning, protects, receives};
 use anyhow::anyhow;
-use banks::keys::Key;
+use keys::Key;
 use rehearsal::log::{Answer, Line};
 use std::alloc::Global;
 

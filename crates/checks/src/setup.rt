@@ -1,7 +1,7 @@
 // The two stations of the cases, and the lines that their logs are made of.
 use anyhow::anyhow;
 use banks::delivered::delivered;
-use banks::keys::Key;
+use keys::Key;
 use rehearsal::log::{Answer, Call, Line, Side};
 use rehearsal::rehearse::{Places, Setup, rehearse};
 use rules::component::ComponentId;

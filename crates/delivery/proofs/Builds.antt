@@ -5,7 +5,7 @@ use Rattle.std.proofs.lemmas.Bool.{both_ways, leb-false}
 use Rattle.octets.specs.Numbers.{Octets, octets_of}
 use Rattle.octets.proofs.Widths.{length_octets, octets_octets, number_octets, octets_back}
 use Rattle.banks.specs.Delivered.{delivered_ciphers, delivered_tags}
-use Rattle.banks.specs.Keys.{iv_of}
+use Rattle.keys.specs.Keys.{iv_of}
 use Rattle.banks.specs.Mia1.{mia1}
 use Rattle.banks.specs.Stream.{mea1_involution}
 use Rattle.rules.specs.Checks.{first, or_else, decided}

@@ -3,7 +3,7 @@ use Rattle.std.proofs.Common.{◌≡◌, ℕ, List, ◌++◌, drop, Result, refl
 use Rattle.std.proofs.lemmas.Bool.{cond-true, cond-false}
 use Rattle.banks.specs.Ciphers.{Ciphers, applied}
 use Rattle.banks.specs.Delivered.{delivered_ciphers, delivered_tags}
-use Rattle.banks.specs.Keys.{iv_of}
+use Rattle.keys.specs.Keys.{iv_of}
 use Rattle.banks.specs.Tags.{Tags, tag_of}
 use Rattle.rules.specs.Layout.{sealed_header, sealed_message, iv_octets}
 use Rattle.rules.specs.declared.message.IvFields.{IvFields}

@@ -1,7 +1,7 @@
 -- What the delivered gateway sends: AES in counter mode and CBC-MAC themselves.
 use Rattle.std.specs.Prelude.{◌≡◌, ℕ, true, false, List, ◌++◌, drop, is_ok, Result}
 use Rattle.octets.specs.Numbers.{octets_of}
-use Rattle.banks.specs.Keys.{iv_of}
+use Rattle.keys.specs.Keys.{iv_of}
 use Rattle.banks.specs.Mea1.{mea1}
 use Rattle.banks.specs.Mia1.{mia1}
 use Rattle.rules.specs.Layout.{sealed_header, iv_octets}

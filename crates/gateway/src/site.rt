@@ -1,5 +1,5 @@
 // The stations of a run. Each is made at its first call, with the places that it was declared with.
-use banks::keys::Key;
+use keys::Key;
 use delivery::Gateway;
 use desk::Declared;
 use rules::component::ComponentId;

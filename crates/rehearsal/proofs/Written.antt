@@ -6,7 +6,7 @@ use Rattle.std.proofs.lemmas.Bool.{cases_Bool, cond-true, cond-false, both_ways,
 use Rattle.octets.specs.Numbers.{Octets, octets_of}
 use Rattle.octets.proofs.Widths.{length_octets}
 use Rattle.banks.specs.Ciphers.{Ciphers, Lawful, ciphered}
-use Rattle.banks.specs.Keys.{iv_of}
+use Rattle.keys.specs.Keys.{iv_of}
 use Rattle.banks.specs.Tags.{Tags, LawfulTags, tagged}
 use Rattle.banks.specs.Laws.{tagged_small}
 use Rattle.register.specs.Places.{Apart}

@@ -1,3 +1,4 @@
+pub mod Additions
 pub mod Installs
 pub mod Preferences
 pub mod Protects

@@ -2,7 +2,7 @@
 use Rattle.std.proofs.Common.{◌≡◌, ℕ, List, length, refl}
 use Rattle.octets.specs.Numbers.{Octets}
 use Rattle.banks.specs.Ciphers.{Ciphers, Lawful}
-use Rattle.banks.specs.Keys.{iv_of}
+use Rattle.keys.specs.Keys.{iv_of}
 use Rattle.banks.specs.Laws.{ciphered_keeps, ciphered_octets, ciphered_back}
 use Rattle.rules.specs.Layout.{iv_octets}
 use Rattle.rules.specs.declared.message.IvFields.{IvFields}

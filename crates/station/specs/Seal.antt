@@ -1,7 +1,7 @@
 -- The octets of protected messages, over any banks.
 use Rattle.std.specs.Prelude.{ℕ, ◌+◌, cond, List, ◌++◌}
 use Rattle.banks.specs.Ciphers.{Ciphers, ciphered}
-use Rattle.banks.specs.Keys.{iv_of}
+use Rattle.keys.specs.Keys.{iv_of}
 use Rattle.banks.specs.Tags.{Tags, tagged}
 use Rattle.rules.specs.Layout.{sealed_header, iv_octets, open_message, sealed_message}
 use Rattle.rules.specs.Modes.{protects}

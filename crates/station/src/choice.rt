@@ -81,5 +81,5 @@ pub fn choose(
     ensures law { Chosen reading own network registers.now.associations.places.now result }
     ensures anywhere { Anywhere reading own network registers.now.associations.places.now result }
 {
-    best_of(registers.association_places(), reading, own, network)
+    best_of(registers.associations.places(), reading, own, network)
 }

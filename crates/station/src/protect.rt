@@ -91,9 +91,9 @@ impl Station {
         ensures banks { MeanTheSame C.CipherBank.means T.TagBank.means banks.old banks.new }
         ensures sends { Sends (record { station = self.old; contents = contents_of registers.now; ciphers = C.CipherBank.means banks.old.ciphers; tags = T.TagBank.means banks.old.tags; reading = reading; network = network; component = component; cleartext = cleartext.now; output = output.old }) self.new output.new result }
     {
-        let Some(association) = choose(registers, reading, self.settings.own(), network) else {
-            return Err(Refusal::NoLiveAssociation);
-        };
+        let association = choose(registers, reading, self.settings.own(), network).ok_or(
+            Refusal::NoLiveAssociation,
+        )?;
         let mode = self.settings.mode(association.ppi, component);
         let length = message_length(mode, cleartext.len());
         let prop = self.protected_at(reading);
@@ -143,9 +143,7 @@ impl Station {
     {
         self.clock(reading)?;
         form(component, cleartext.len())?;
-        let Some(policy) = registers.policy(network) else {
-            return Err(Refusal::NoPolicy);
-        };
+        let policy = registers.policy(network).ok_or(Refusal::NoPolicy)?;
         match policy.stance {
             Stance::Plain => {
                 self.latest = reading;

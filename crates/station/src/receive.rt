@@ -61,9 +61,10 @@ fn room(
     if output < needed {
         return Err(Refusal::OutputTooShort { needed });
     }
-    let capacity = registers.heard_capacity();
-    if registers.heard_count(reading) >= capacity {
-        return Err(Refusal::HeardFull { capacity });
+    if !registers.heard.has_room_at(reading) {
+        return Err(Refusal::HeardFull {
+            capacity: registers.heard.capacity(),
+        });
     }
     Ok(())
 }
@@ -79,19 +80,13 @@ impl Station {
     ) -> Option<SecurityAssociation>
         ensures { result ≡ association_of self.now.settings.own reading network spi (contents_of registers.now) }
     {
-        match registers.association(AssociationKey {
+        let key = AssociationKey {
             destination: self.settings.own(),
             spi,
-        }) {
-            Some(association) => {
-                if (association.sender == network) & association.is_live(reading) {
-                    Some(association)
-                } else {
-                    None
-                }
-            }
-            None => None,
-        }
+        };
+        registers
+            .association(key)
+            .filter(|a| (a.sender == network) & a.is_live(reading))
     }
 
     // The header of a message, which has to be of a known kind, from a network that sends MAPsec, under a live association.
@@ -108,16 +103,14 @@ impl Station {
         if header.component.known_kind().is_none() {
             return Err(Refusal::UnknownKind { place: 4 });
         }
-        let Some(policy) = registers.policy(network) else {
-            return Err(Refusal::NoPolicy);
-        };
-        if let Stance::Plain = policy.stance {
+        let policy = registers.policy(network).ok_or(Refusal::NoPolicy)?;
+        if policy.stance == Stance::Plain {
             return Err(Refusal::SecuredFromPlainNetwork);
         }
-        match self.association_from(registers, reading, network, header.spi) {
-            Some(association) => Ok((header, association)),
-            None => Err(Refusal::NoLiveAssociation),
-        }
+        let association = self
+            .association_from(registers, reading, network, header.spi)
+            .ok_or(Refusal::NoLiveAssociation)?;
+        Ok((header, association))
     }
 
     // An open message: not too long, not of the protected list where there is no fallback, and with room for it.
@@ -166,8 +159,10 @@ impl Station {
                 place: message.tag.place,
             });
         }
-        if registers.heard_fresh(key, reading) {
-            return Err(Refusal::HeardBefore);
+        if let Some(heard) = registers.heard.find(key) {
+            if heard.last >= reading {
+                return Err(Refusal::HeardBefore);
+            }
         }
         Ok(window.last_tick(reading, key.tvp))
     }
@@ -213,7 +208,14 @@ impl Station {
                 place: SEALED_HEADER,
             });
         }
-        let last = self.fresh(registers, &mut banks.tags, reading, key, association, message)?;
+        let last = self.fresh(
+            registers,
+            &mut banks.tags,
+            reading,
+            key,
+            association,
+            message,
+        )?;
         room(registers, reading, needed, output.len())?;
         output[0..needed].copy_from_slice(payload);
         turn(
@@ -223,7 +225,7 @@ impl Station {
             handed.mode,
             &mut output[0..needed],
         );
-        registers.remember(HeardMessage { key, last }, reading);
+        let _ = registers.heard.put_at(HeardMessage { key, last }, reading);
         self.latest = reading;
         Ok(handed)
     }

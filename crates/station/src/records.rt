@@ -1,13 +1,12 @@
 // The records that a station keeps. None holds an array, so that each can lie in a register.
-ghost use Rattle.std.specs.Prelude.{◌≡◌, ◌-◌, nat_eq};
-ghost use Rattle.station.specs.Records.{association_key, same_association, live, same_heard};
-ghost use Rattle.std.proofs.Common.{rules};
+ghost use Rattle.std.specs.Prelude.{◌≡◌, ◌-◌};
+ghost use Rattle.station.specs.Records.{association_key, live};
 
-use banks::keys::Key;
+use keys::Key;
 use register::{Ending, Keyed};
 
 // How a station deals with a network: without MAPsec, or with it.
-#[derive(Clone, Copy)]
+#[derive(Clone, Copy, Debug, PartialEq, Eq)]
 pub enum Stance {
     Plain,
     Mapsec,
@@ -25,31 +24,17 @@ impl Keyed for Policy {
 
     ghost key = { λ p. p.network };
 
-    ghost same = { nat_eq };
+    ghost MOST = { 64 };
 
-    ghost most = { 64 };
-
-    ghost reflexive = { Prim.search rules };
-
-    ghost symmetric = { Prim.search rules };
-
-    ghost transitive = { Prim.search rules };
+    const MOST: usize = 64;
 
     fn key_of(&self) -> u32 {
         self.network
     }
-
-    fn has_key(&self, k: u32) -> bool {
-        k == self.network
-    }
-
-    fn most_places() -> usize {
-        64
-    }
 }
 
 // What a security association is held under.
-#[derive(Clone, Copy)]
+#[derive(Clone, Copy, Debug, PartialEq, Eq)]
 pub struct AssociationKey {
     pub destination: u32,
     pub spi: u32,
@@ -84,29 +69,15 @@ impl Keyed for SecurityAssociation {
 
     ghost key = { association_key };
 
-    ghost same = { same_association };
+    ghost MOST = { 256 };
 
-    ghost most = { 256 };
-
-    ghost reflexive = { Prim.search rules };
-
-    ghost symmetric = { Prim.search rules };
-
-    ghost transitive = { Prim.search rules };
+    const MOST: usize = 256;
 
     fn key_of(&self) -> AssociationKey {
         AssociationKey {
             destination: self.destination,
             spi: self.spi,
         }
-    }
-
-    fn has_key(&self, k: AssociationKey) -> bool {
-        (k.destination == self.destination) & (k.spi == self.spi)
-    }
-
-    fn most_places() -> usize {
-        256
     }
 }
 
@@ -120,7 +91,7 @@ impl Ending for SecurityAssociation {
 }
 
 // What a message is known by once it was heard.
-#[derive(Clone, Copy)]
+#[derive(Clone, Copy, Debug, PartialEq, Eq)]
 pub struct HeardKey {
     pub network: u32,
     pub spi: u32,
@@ -141,29 +112,12 @@ impl Keyed for HeardMessage {
 
     ghost key = { λ h. h.key };
 
-    ghost same = { same_heard };
+    ghost MOST = { 4096 };
 
-    ghost most = { 4096 };
-
-    ghost reflexive = { Prim.search rules };
-
-    ghost symmetric = { Prim.search rules };
-
-    ghost transitive = { Prim.search rules };
+    const MOST: usize = 4096;
 
     fn key_of(&self) -> HeardKey {
         self.key
-    }
-
-    fn has_key(&self, k: HeardKey) -> bool {
-        (k.network == self.key.network)
-            & ((k.spi == self.key.spi)
-                & ((k.tvp == self.key.tvp)
-                    & ((k.ne_id == self.key.ne_id) & (k.prop == self.key.prop))))
-    }
-
-    fn most_places() -> usize {
-        4096
     }
 }
 

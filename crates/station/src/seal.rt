@@ -7,8 +7,9 @@ ghost use Rattle.station.specs.Seal.{turned, sealed_under};
 use crate::records::SecurityAssociation;
 use banks::Banks;
 use banks::cipher::CipherBank;
-use banks::keys::Iv;
 use banks::tag::TagBank;
+use keys::Iv;
+use octets::Octets;
 use rules::message::{IvFields, OPEN_HEADER, SEALED_HEADER, SecurityHeader, TAG};
 use rules::protection::ProtectionMode;
 
@@ -29,7 +30,7 @@ pub(crate) fn turn<C: CipherBank>(
             ciphers.run(
                 association.mea,
                 &association.cipher_key,
-                &Iv::from_octets(fields.iv()),
+                &Iv::from(fields.iv()),
                 octets,
             );
         }
@@ -77,5 +78,5 @@ pub(crate) fn write_sealed<C: CipherBank, T: TagBank>(
         &message[0..SEALED_HEADER],
         &message[SEALED_HEADER..tag_place],
     );
-    message[tag_place..end].copy_from_slice(&octets::of_u32(tag));
+    message[tag_place..end].copy_from_slice(&tag.to_octets());
 }

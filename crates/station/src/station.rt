@@ -55,7 +55,7 @@ impl Station {
         }
         let stance = match stance {
             0 => {
-                registers.remove_policy(network);
+                registers.policies.remove(network);
                 return Ok(());
             }
             1 => Stance::Plain,
@@ -64,12 +64,11 @@ impl Station {
                 field: PolicyField::Stance,
             }),
         };
-        if registers.set_policy(Policy { network, stance }) {
-            return Ok(());
-        }
-        Err(Refusal::RegisterFull {
-            capacity: registers.policy_capacity(),
-        })
+        let capacity = registers.policies.capacity();
+        registers
+            .policies
+            .put(Policy { network, stance })
+            .map_err(|_| Refusal::RegisterFull { capacity })
     }
 
     // Drops the association under a destination and an SPI, live or not.
@@ -81,10 +80,11 @@ impl Station {
     ) -> Result<(), Refusal>
         ensures { Revoked destination spi (contents_of registers.old) (contents_of registers.new) result }
     {
-        if registers.remove_association(AssociationKey { destination, spi }) {
-            return Ok(());
-        }
-        Err(Refusal::KeyNotHeld)
+        registers
+            .associations
+            .remove(AssociationKey { destination, spi })
+            .ok_or(Refusal::KeyNotHeld)?;
+        Ok(())
     }
 
     // The reading is in range, and not before the latest.
@@ -153,7 +153,7 @@ impl Station {
         self.clock(reading)?;
         self.fields(banks, reading, &association)?;
         place_for(registers, reading, &association)?;
-        registers.add_association(association, reading);
+        let _ = registers.associations.put_at(association, reading);
         self.latest = reading;
         Ok(())
     }
@@ -172,9 +172,10 @@ fn place_for(
             return Err(Refusal::KeyHeld);
         }
     }
-    let capacity = registers.association_capacity();
-    if registers.live_associations(reading) >= capacity {
-        return Err(Refusal::RegisterFull { capacity });
+    if !registers.associations.has_room_at(reading) {
+        return Err(Refusal::RegisterFull {
+            capacity: registers.associations.capacity(),
+        });
     }
     Ok(())
 }

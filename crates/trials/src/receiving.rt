@@ -1,7 +1,7 @@
 // Receive at its edges: lengths, kinds, room, and who sends.
 use crate::arriving::{UNTOUCHED, WRITTEN, attempt, made, protect_into};
 use crate::setup::{OTHER, OWN, association, gateway, taken, told};
-use banks::keys::Key;
+use keys::Key;
 use rules::component::ComponentId;
 use station::registers::Registers;
 use std::test::Fail;

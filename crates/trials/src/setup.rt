@@ -1,5 +1,5 @@
 // What the trials start from.
-use banks::keys::Key;
+use keys::Key;
 use delivery::Gateway;
 use rules::component::ComponentId;
 use rules::profile::ProfileLine;

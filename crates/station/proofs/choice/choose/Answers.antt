@@ -9,8 +9,8 @@ returns c =
     let own = c.args.own in
     let network = c.args.network in
     let places = c.args.registers.now.associations.places.now in
-    let apart = c.args.registers.now.associations_apart in
-    let is : c.best_of.result ≡ chosen_for r own network places = c.best_of.ensures ∙ ap (chosen_for r own network) c.association_places.ensures in
+    let apart = c.args.registers.now.associations.apart in
+    let is : c.best_of.result ≡ chosen_for r own network places = c.best_of.ensures ∙ ap (chosen_for r own network) c.places.ensures in
     record {
       value = is;
       law = subst (Chosen r own network places) (sym is) (chosen_law r own network places apart);

@@ -17,5 +17,5 @@ returns g c =
           c.copy_from_slice.new.self _ c.copy_from_slice-2.new.self c.args.cleartext.now c.turn.new.octets c.copy_from_slice-3.new.self old
           c.tag-tag.result (length c.args.cleartext.now) (length old - 4 - 20) (length old - 4) (length old - (length old - 4))
           (c.copy_from_slice.ensures.after ∙ c.sealed_octets.ensures) (length_sealed_header c.args.header f) c.copy_from_slice-2.ensures.after refl c.requires (omega arith) (omega arith) (omega arith)
-          c.turn.ensures.octets c.tag-tag.ensures.tagged (c.copy_from_slice-3.ensures.after ∙ c.of_u32.ensures);
+          c.turn.ensures.octets c.tag-tag.ensures.tagged (c.copy_from_slice-3.ensures.after ∙ c.to_octets.ensures);
     }

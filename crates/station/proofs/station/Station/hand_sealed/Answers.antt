@@ -1,8 +1,10 @@
 use Rattle.std.proofs.Common.{◌-◌, length, Err, refl, ap, ◌∙◌, subst, arith}
 use Rattle.std.proofs.lemmas.Result.{err_from_is_err_and}
 use Rattle.station.specs.Receive.{HandOver}
+use Rattle.station.specs.Records.{same_heard}
 use Rattle.station.specs.Seal.{turned}
 use Rattle.station.specs.States.{contents_of, HeardAdded}
+use Rattle.station.proofs.Additions.{added}
 use Rattle.station.proofs.Receives.{refuses_fresh, tick_is, refuses_room, place, hands, front_turned}
 use Rattle.station.proofs.station.Station.hand_sealed.Goals as goal
 
@@ -26,8 +28,8 @@ returns g c =
       hands = hands h (omega arith) _ c.in_ok-last.ensures.answer c.in_ok-room.ensures _ _ _ record {
         station_is = refl;
         output_is = front_turned (turned h.ciphers h.association h.message.fields h.handed.mode) (length h.message.payload.octets.now - 0) (length h.message.payload.octets.now) h.message.payload.octets.now c.copy_from_slice.new.self c.turn.new.octets h.output c.copy_from_slice.ensures.after c.turn.ensures.octets (omega arith) refl;
-        policies = c.remember.ensures.others.0;
-        associations = c.remember.ensures.others.1;
-        remembered = subst (λ t. HeardAdded (record { key = h.key; last = t }) h.reading h.contents.heard c.remember.new.self.heard.places.now) (tick_is h (omega arith) _ c.in_ok-last.ensures.answer) (c.remember.ensures.added (place h (omega arith) _ c.in_ok-last.ensures.answer c.in_ok-room.ensures));
+        policies = refl;
+        associations = refl;
+        remembered = subst (λ t. HeardAdded (record { key = h.key; last = t }) h.reading h.contents.heard c.put_at.new.self.places.now) (tick_is h (omega arith) _ c.in_ok-last.ensures.answer) (added (λ m. m.key) same_heard (λ m. m.last) _ h.reading h.contents.heard _ _ (place h (omega arith) _ c.in_ok-last.ensures.answer c.in_ok-room.ensures) c.put_at.ensures);
       };
     }

@@ -1,6 +1,8 @@
-use Rattle.std.proofs.Common.{Err, ap, ◌∙◌}
+use Rattle.std.proofs.Common.{Err, refl, ap, ◌∙◌}
 use Rattle.std.proofs.lemmas.Result.{err_from_is_err_and}
+use Rattle.station.specs.Records.{association_key, same_association, association_last}
 use Rattle.station.specs.States.{contents_of}
+use Rattle.station.proofs.Additions.{added}
 use Rattle.station.proofs.Installs.{refuses, refuses_fields, room, takes}
 use Rattle.station.proofs.station.Station.install.Goals as goal
 
@@ -16,6 +18,8 @@ returns g c =
     let t = g.T.TagBank.means c.args.banks.now.tags in
     let s = c.args.self.now in
     let before = contents_of c.args.registers.now in
-    takes m t c.args.reading c.args.association s before c.in_ok-clock.ensures c.in_ok-fields.ensures c.in_ok-place_for.ensures (contents_of c.add_association.new.self)
-    (c.add_association.ensures.added (room m t c.args.reading c.args.association s before c.in_ok-clock.ensures c.in_ok-fields.ensures c.in_ok-place_for.ensures))
-    c.add_association.ensures.others.0 c.add_association.ensures.others.1
+    let a = c.args.association in
+    let put = c.put_at.new.self.places.now in
+    let free = room m t c.args.reading a s before c.in_ok-clock.ensures c.in_ok-fields.ensures c.in_ok-place_for.ensures in
+    takes m t c.args.reading a s before c.in_ok-clock.ensures c.in_ok-fields.ensures c.in_ok-place_for.ensures (record { policies = before.policies; associations = put; heard = before.heard })
+    (added association_key same_association association_last a c.args.reading before.associations put _ free c.put_at.ensures) refl refl
