@@ -5,31 +5,22 @@ use Rattle.station.specs.Records.{same_heard}
 use Rattle.station.specs.Seal.{turned}
 use Rattle.station.specs.States.{contents_of, HeardAdded}
 use Rattle.station.proofs.Additions.{added}
-use Rattle.station.proofs.Receives.{refuses_fresh, tick_is, refuses_room, place, hands, front_turned}
+use Rattle.station.proofs.Receives.{refuses_fresh, tick_is, place, hands, front_turned}
 use Rattle.station.proofs.station.Station.hand_sealed.Goals as goal
 
-pub returns-in_err-last : goal.returns-in_err-last
-returns-in_err-last g c =
-    let h : HandOver = record { station = c.args.self.now; contents = contents_of c.args.registers.now; ciphers = g.C.CipherBank.means c.args.banks.now.ciphers; tags = g.T.TagBank.means c.args.banks.now.tags; reading = c.args.reading; key = c.args.key; association = c.args.association.now; handed = c.args.handed; message = c.args.message.now; output = c.args.output.now } in
+pub returns-in_err-last-clause-hands : goal.returns-in_err-last-clause-hands
+returns-in_err-last-clause-hands g c =
     let p = err_from_is_err_and c.from_residual.result c.from_residual.ensures.1 in
-    record { banks = record { ciphers = refl; tags = c.fresh.ensures.tags }; hands = refuses_fresh h (omega arith) _ _ (p.1 ∙ ap Err p.2) c.in_err-last.ensures.answer }
+    refuses_fresh _ (omega arith) _ _ (p.1 ∙ ap Err p.2) c.in_err-last.ensures.answer
 
-pub returns-in_err-room : goal.returns-in_err-room
-returns-in_err-room g c =
+pub returns-clause-hands : goal.returns-clause-hands
+returns-clause-hands g c =
     let h : HandOver = record { station = c.args.self.now; contents = contents_of c.args.registers.now; ciphers = g.C.CipherBank.means c.args.banks.now.ciphers; tags = g.T.TagBank.means c.args.banks.now.tags; reading = c.args.reading; key = c.args.key; association = c.args.association.now; handed = c.args.handed; message = c.args.message.now; output = c.args.output.now } in
-    let p = err_from_is_err_and c.from_residual-in_err-room.result c.from_residual-in_err-room.ensures.1 in
-    record { banks = record { ciphers = refl; tags = c.fresh.ensures.tags }; hands = refuses_room h (omega arith) _ c.in_ok-last.ensures.answer _ _ (p.1 ∙ ap Err p.2) c.in_err-room.ensures }
-
-pub returns : goal.returns
-returns g c =
-    let h : HandOver = record { station = c.args.self.now; contents = contents_of c.args.registers.now; ciphers = g.C.CipherBank.means c.args.banks.now.ciphers; tags = g.T.TagBank.means c.args.banks.now.tags; reading = c.args.reading; key = c.args.key; association = c.args.association.now; handed = c.args.handed; message = c.args.message.now; output = c.args.output.now } in
-    record {
-      banks = record { ciphers = c.turn.ensures.stays; tags = c.fresh.ensures.tags };
-      hands = hands h (omega arith) _ c.in_ok-last.ensures.answer c.in_ok-room.ensures _ _ _ record {
-        station_is = refl;
-        output_is = front_turned (turned h.ciphers h.association h.message.fields h.handed.mode) (length h.message.payload.octets.now - 0) (length h.message.payload.octets.now) h.message.payload.octets.now c.copy_from_slice.new.self c.turn.new.octets h.output c.copy_from_slice.ensures.after c.turn.ensures.octets (omega arith) refl;
-        policies = refl;
-        associations = refl;
-        remembered = subst (λ t. HeardAdded (record { key = h.key; last = t }) h.reading h.contents.heard c.put_at.new.self.places.now) (tick_is h (omega arith) _ c.in_ok-last.ensures.answer) (added (λ m. m.key) same_heard (λ m. m.last) _ h.reading h.contents.heard _ _ (place h (omega arith) _ c.in_ok-last.ensures.answer c.in_ok-room.ensures) c.put_at.ensures);
-      };
+    let fresh = c.in_ok-last.ensures.answer in
+    hands h (omega arith) _ fresh c.in_ok-room.ensures _ _ _ record {
+      station_is = refl;
+      output_is = front_turned (turned h.ciphers h.association h.message.fields h.handed.mode) (length h.message.payload.octets.now - 0) (length h.message.payload.octets.now) h.message.payload.octets.now c.copy_from_slice.new.self c.turn.new.octets h.output c.copy_from_slice.ensures.after c.turn.ensures.octets (omega arith) refl;
+      policies = refl;
+      associations = refl;
+      remembered = subst (λ t. HeardAdded (record { key = h.key; last = t }) h.reading h.contents.heard c.put_at.new.self.places.now) (tick_is h (omega arith) _ fresh) (added (λ m. m.key) same_heard (λ m. m.last) _ h.reading h.contents.heard _ _ (place h (omega arith) _ fresh c.in_ok-room.ensures) c.put_at.ensures);
     }

@@ -8,18 +8,20 @@ use Rattle.station.proofs.station.Station.install.Goals as goal
 
 pub returns-in_err-fields : goal.returns-in_err-fields
 returns-in_err-fields g c =
+    let m = g.C.CipherBank.means c.args.banks.now.ciphers in
+    let t = g.T.TagBank.means c.args.banks.now.tags in
+    let before = contents_of c.args.registers.now in
     let p = err_from_is_err_and c.from_residual-in_err-fields.result c.from_residual-in_err-fields.ensures.1 in
-    refuses (g.C.CipherBank.means c.args.banks.now.ciphers) (g.T.TagBank.means c.args.banks.now.tags) c.args.reading c.args.association c.args.self.now (contents_of c.args.registers.now) _ _ (p.1 ∙ ap Err p.2)
-    (refuses_fields (g.C.CipherBank.means c.args.banks.now.ciphers) (g.T.TagBank.means c.args.banks.now.tags) c.args.reading c.args.association c.args.self.now (contents_of c.args.registers.now) c.in_ok-clock.ensures _ c.in_err-fields.ensures)
+    refuses m t c.args.reading c.args.association c.args.self.now before _ _ (p.1 ∙ ap Err p.2) (refuses_fields m t c.args.reading c.args.association c.args.self.now before c.in_ok-clock.ensures _ c.in_err-fields.ensures)
 
 pub returns : goal.returns
 returns g c =
     let m = g.C.CipherBank.means c.args.banks.now.ciphers in
     let t = g.T.TagBank.means c.args.banks.now.tags in
-    let s = c.args.self.now in
     let before = contents_of c.args.registers.now in
-    let a = c.args.association in
-    let put = c.put_at.new.self.places.now in
-    let free = room m t c.args.reading a s before c.in_ok-clock.ensures c.in_ok-fields.ensures c.in_ok-place_for.ensures in
-    takes m t c.args.reading a s before c.in_ok-clock.ensures c.in_ok-fields.ensures c.in_ok-place_for.ensures (record { policies = before.policies; associations = put; heard = before.heard })
-    (added association_key same_association association_last a c.args.reading before.associations put _ free c.put_at.ensures) refl refl
+    let clock = c.in_ok-clock.ensures in
+    let fields = c.in_ok-fields.ensures in
+    let place = c.in_ok-place_for.ensures in
+    let free = room m t c.args.reading c.args.association c.args.self.now before clock fields place in
+    takes m t c.args.reading c.args.association c.args.self.now before clock fields place (record { policies = before.policies; associations = c.put_at.new.self.places.now; heard = before.heard })
+    (added association_key same_association association_last _ _ _ _ _ free c.put_at.ensures) refl refl
