@@ -1,73 +1,80 @@
 // Which association a component is sent under.
-ghost use Rattle.std.specs.Prelude.{◌≡◌};
+ghost use Rattle.std.specs.Prelude.{◌≡◌, nat_le};
 ghost use Rattle.station.specs.Choice.{candidate, preferred, weighed, chosen_for, Chosen, Anywhere};
 
 use crate::records::SecurityAssociation;
 use crate::registers::Registers;
 
-// Whether it sends from the own network to the network, and is live.
-fn is_candidate(a: &SecurityAssociation, reading: u64, own: u32, network: u32) -> bool
-    ensures { result ≡ candidate reading own network a.now }
-{
-    (a.sender == own) & ((a.destination == network) & a.is_live(reading))
+// The smaller comes first: one before its soft expiry; then the earlier hard expiry; then the smaller SPI.
+#[derive(Clone, Copy, PartialEq, Eq, PartialOrd, Ord)]
+struct Rank {
+    past_soft: bool,
+    hard: u64,
+    spi: u32,
 }
 
-// Those before their soft expiry come first; then the earliest hard expiry; then the smallest SPI.
-fn is_preferred(a: &SecurityAssociation, b: &SecurityAssociation, reading: u64) -> bool
-    ensures { result ≡ preferred reading a.now b.now }
-{
-    let (a_early, b_early) = (reading < a.soft, reading < b.soft);
-    if a_early != b_early {
-        return a_early;
-    }
-    if a.hard != b.hard {
-        return a.hard < b.hard;
-    }
-    a.spi < b.spi
-}
-
-// The best so far, once one more place was looked at.
-fn weigh(
-    best: Option<SecurityAssociation>,
-    place: Option<SecurityAssociation>,
+// What an association is wanted for: at a reading, sending from the own network to a network.
+#[derive(Clone, Copy)]
+struct Errand {
     reading: u64,
     own: u32,
     network: u32,
-) -> Option<SecurityAssociation>
-    ensures { result ≡ weighed (candidate reading own network) (preferred reading) best place }
-{
-    let Some(a) = place else {
-        return best;
-    };
-    if !is_candidate(&a, reading, own, network) {
-        return best;
+}
+
+impl Errand {
+    // Whether it sends from the own network to the network, and is live.
+    fn suits(self, a: &SecurityAssociation) -> bool
+        ensures { result ≡ candidate self.reading self.own self.network a.now }
+    {
+        (a.sender == self.own) & ((a.destination == self.network) & a.is_live(self.reading))
     }
-    match best {
-        Some(b) => {
-            if is_preferred(&a, &b, reading) {
-                Some(a)
-            } else {
-                Some(b)
-            }
+
+    fn rank(self, a: &SecurityAssociation) -> Rank
+        ensures { result ≡ record { past_soft = nat_le a.now.soft self.reading; hard = a.now.hard; spi = a.now.spi } }
+    {
+        Rank {
+            past_soft: a.soft <= self.reading,
+            hard: a.hard,
+            spi: a.spi,
         }
-        None => Some(a),
     }
-}
 
-// The best of all places.
-fn best_of(
-    places: &[Option<SecurityAssociation>],
-    reading: u64,
-    own: u32,
-    network: u32,
-) -> Option<SecurityAssociation>
-    ensures { result ≡ chosen_for reading own network places.now }
-{
-    let mut best = None;
-    for place in places {
-        best = weigh(best, *place, reading, own, network);
+    fn prefers(self, a: &SecurityAssociation, b: &SecurityAssociation) -> bool
+        ensures { result ≡ preferred self.reading a.now b.now }
+    {
+        self.rank(a) < self.rank(b)
     }
-    best
+
+    // The best so far, once one more place was looked at.
+    fn weigh(
+        self,
+        best: Option<SecurityAssociation>,
+        place: Option<SecurityAssociation>,
+    ) -> Option<SecurityAssociation>
+        ensures { result ≡ weighed (candidate self.reading self.own self.network) (preferred self.reading) best place }
+    {
+        let Some(a) = place else {
+            return best;
+        };
+        if !self.suits(&a) {
+            return best;
+        }
+        match best {
+            Some(b) if !self.prefers(&a, &b) => Some(b),
+            _ => Some(a),
+        }
+    }
+
+    // The best of all places.
+    fn best_of(self, places: &[Option<SecurityAssociation>]) -> Option<SecurityAssociation>
+        ensures { result ≡ chosen_for self.reading self.own self.network places.now }
+    {
+        let mut best = None;
+        for place in places {
+            best = self.weigh(best, *place);
+        }
+        best
+    }
 }
 
 // The association for sending to a network at a reading, or none where no candidate is held.
@@ -81,5 +88,10 @@ pub fn choose(
     ensures law { Chosen reading own network registers.now.associations.places.now result }
     ensures anywhere { Anywhere reading own network registers.now.associations.places.now result }
 {
-    best_of(registers.associations.places(), reading, own, network)
+    let errand = Errand {
+        reading,
+        own,
+        network,
+    };
+    errand.best_of(registers.associations.places())
 }

@@ -1,8 +1,0 @@
-use Rattle.std.proofs.Common.{◌≡◌, drop}
-use Rattle.station.specs.Choice.{best_from, candidate, preferred, chosen_for}
-use Rattle.station.proofs.choice.best_of.Given as goal
-
-abbrev pub invariant-loop-place : goal.invariant-loop-place
-invariant-loop-place l =
-    chosen_for l.reading l.own l.network l.places
-    ≡ best_from (candidate l.reading l.own l.network) (preferred l.reading) l.best (drop l.place-index l.places)
