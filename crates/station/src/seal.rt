@@ -24,16 +24,13 @@ pub(crate) fn turn<C: CipherBank>(
     ensures stays { C.CipherBank.means ciphers.new ≡ C.CipherBank.means ciphers.old }
     ensures octets { octets.new ≡ turned (C.CipherBank.means ciphers.old) association.now fields mode octets.old }
 {
-    match mode {
-        ProtectionMode::NoProtection | ProtectionMode::Integrity => {}
-        ProtectionMode::Confidentiality => {
-            ciphers.run(
-                association.mea,
-                &association.cipher_key,
-                &Iv::from(fields.iv()),
-                octets,
-            );
-        }
+    if let ProtectionMode::Confidentiality = mode {
+        ciphers.run(
+            association.mea,
+            &association.cipher_key,
+            &Iv::from(fields.iv()),
+            octets,
+        );
     }
 }
 

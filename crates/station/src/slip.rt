@@ -22,18 +22,13 @@ pub(crate) fn with_slip<V>(outcome: Result<V, Refusal>, waiting: bool) -> Answer
     ensures outcome { result.outcome ≡ outcome }
     ensures slip { result.slip ≡ record { number = refusal_number outcome; waiting = waiting } }
 {
-    match outcome {
-        Ok(value) => Answer {
-            outcome: Ok(value),
-            slip: Slip { number: 0, waiting },
-        },
-        Err(refusal) => Answer {
-            outcome: Err(refusal),
-            slip: Slip {
-                number: refusal.number(),
-                waiting,
-            },
-        },
+    let number = match &outcome {
+        Ok(_) => 0,
+        Err(refusal) => refusal.number(),
+    };
+    Answer {
+        outcome,
+        slip: Slip { number, waiting },
     }
 }
 
@@ -43,7 +38,7 @@ pub fn close(slip: Slip) -> u8
 {
     let Slip { number, waiting } = slip;
     match number {
-        21 | 22 | 23 | 31 | 42 => { if waiting { number } else { 0 } }
+        21 | 22 | 23 | 31 | 42 if waiting => number,
         _ => 0,
     }
 }

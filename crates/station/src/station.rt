@@ -107,35 +107,24 @@ impl Station {
         ensures { result ≡ decided (field_checks self.now.settings.own (C.CipherBank.means banks.now.ciphers) (T.TagBank.means banks.now.tags) reading a.now) tt }
     {
         let own = self.settings.own();
+        let wrong = |field| Err(Refusal::WrongAssociation { field });
         if (a.sender >= NETWORKS) | ((a.sender != own) & (a.destination != own)) {
-            return Err(Refusal::WrongAssociation {
-                field: AssociationField::Sender,
-            });
+            return wrong(AssociationField::Sender);
         }
         if a.destination >= NETWORKS {
-            return Err(Refusal::WrongAssociation {
-                field: AssociationField::Destination,
-            });
+            return wrong(AssociationField::Destination);
         }
         if !banks.ciphers.knows(a.mea) {
-            return Err(Refusal::WrongAssociation {
-                field: AssociationField::Mea,
-            });
+            return wrong(AssociationField::Mea);
         }
         if !banks.tags.knows(a.mia) {
-            return Err(Refusal::WrongAssociation {
-                field: AssociationField::Mia,
-            });
+            return wrong(AssociationField::Mia);
         }
         if a.soft > a.hard {
-            return Err(Refusal::WrongAssociation {
-                field: AssociationField::SoftExpiry,
-            });
+            return wrong(AssociationField::SoftExpiry);
         }
         if (a.hard <= reading) || (a.hard - reading > LONGEST_LIFE) {
-            return Err(Refusal::WrongAssociation {
-                field: AssociationField::HardExpiry,
-            });
+            return wrong(AssociationField::HardExpiry);
         }
         Ok(())
     }
