@@ -6,12 +6,12 @@ use Rattle.std.proofs.lemmas.Bool.{cases_Bool, cond-true, cond-false, both_ways,
 use Rattle.octets.specs.Numbers.{Octets, octets_of}
 use Rattle.octets.proofs.Widths.{length_octets}
 use Rattle.banks.specs.Ciphers.{Ciphers, Lawful, ciphered}
+use Rattle.std.specs.Cmp.{IsEquivalence, nat_eq_equiv, on_equiv, and_equiv}
 use Rattle.keys.specs.Keys.{iv_of}
 use Rattle.banks.specs.Tags.{Tags, LawfulTags, tagged}
 use Rattle.banks.specs.Laws.{tagged_small}
 use Rattle.register.specs.Places.{Apart}
-use Rattle.register.proofs.Keys.{numbers, at_part, both}
-use Rattle.register.proofs.Lookups.{Equivalence, holds_lookup}
+use Rattle.register.proofs.Lookups.{holds_lookup}
 use Rattle.rules.specs.Components.{kind_of}
 use Rattle.rules.specs.Layout.{header_in, fields_in, open_payload, sealed_payload, tag_in, open_header, sealed_header, iv_octets, open_message, sealed_message, FieldsFit, OpenUndone, SealedUndone}
 use Rattle.rules.specs.Modes.{protects}
@@ -85,8 +85,8 @@ record Wrote (m : Ciphers) (t : Tags) (p : Post) (network : ℕ) (id : Component
   fields_fit : protects mode ≡ true → FieldsFit fields
   is : message ≡ message_under m t association (record { spi = association.spi; component = id }) fields mode cleartext
 
-keys_alike : Equivalence same_association
-keys_alike = both (at_part (λ (k : AssociationKey). k.destination) numbers) (at_part (λ (k : AssociationKey). k.spi) numbers)
+keys_alike : IsEquivalence same_association
+keys_alike = and_equiv (on_equiv (λ (k : AssociationKey). k.destination) nat_eq_equiv) (on_equiv (λ (k : AssociationKey). k.spi) nat_eq_equiv)
 
 -- a chosen association is held under its key, and goes to the network
 chosen_held : (reading own network : ℕ) (places : Associations) (a : SecurityAssociation) → Apart association_key same_association places → chosen_for reading own network places ≡ Some a
