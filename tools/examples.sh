@@ -1,9 +1,8 @@
 #!/bin/sh
-# Runs the examples through the programs, each as `rt try` makes it from the sources, so that nothing has to be built before.
-# Every examples/*.txt goes through border, and those that need no more than admit, install, revoke and protect through
-# gateway too: what is answered is compared with the *.out beside it; what is said of each refusal on standard error is left
-# out. Then every examples/stops/*.txt, which has a line that stops the program: its answers are compared with the *.out,
-# its messages with the *.err, and its status has to be 1.
+# Runs the examples through the gateway, as `rt try` makes it from the sources, so that nothing has to be built before.
+# Of every examples/*.txt what is answered is compared with the *.out beside it; what is said of each refusal on standard
+# error is left out. Then every examples/stops/*.txt, which has a line that stops the program: its answers are compared
+# with the *.out, its messages with the *.err, and its status has to be 1.
 cd "$(dirname "$0")/.." || exit 1
 top=$PWD
 status=0
@@ -11,10 +10,10 @@ answers=$(mktemp)
 errors=$(mktemp)
 trap 'rm -f "$answers" "$errors"' EXIT
 
-# a program on a script, which is given by the name of its file: its answers, its messages and its status
+# the gateway on a script, which is given by the name of its file: its answers, its messages and its status
 run() {
-    name=${2##*/}
-    (cd "crates/$1" && rt try --data "$name=$top/$2" -- "$name") > "$answers" 2> "$errors" < /dev/null
+    name=${1##*/}
+    (cd crates/gateway && rt try --data "$name=$top/$1" -- "$name") > "$answers" 2> "$errors" < /dev/null
 }
 
 # the messages, without what rt says, and with the script named as from here
@@ -32,21 +31,14 @@ tell() {
     fi
 }
 
-compare() {
-    run "$1" "$2"
-    [ $? -eq 0 ] && diff "${2%.txt}.out" "$answers" > /dev/null
-    tell $? "$1 $2"
-}
-
 for script in examples/*.txt; do
-    compare border "$script"
-done
-for script in examples/one.txt examples/partners.txt; do
-    compare gateway "$script"
+    run "$script"
+    [ $? -eq 0 ] && diff "${script%.txt}.out" "$answers" > /dev/null
+    tell $? "$script"
 done
 for script in examples/stops/*.txt; do
-    run border "$script"
+    run "$script"
     [ $? -eq 1 ] && diff "${script%.txt}.out" "$answers" > /dev/null && messages "$script" | diff "${script%.txt}.err" - > /dev/null
-    tell $? "border $script"
+    tell $? "$script"
 done
 exit $status

@@ -7,11 +7,11 @@ use Rattle.desk.specs.declared.Desk.{Desk}
 use Rattle.desk.specs.declared.DeskFault.{DeskFault}
 use Rattle.desk.specs.declared.DeskFault.TheVariants.{DeclaredTwice, NotDeclared, NoMemory}
 use Rattle.rules.specs.declared.profile.ProfileLine.{ProfileLine}
-use Rattle.script.specs.declared.statement.Name.{Name}
-use Rattle.script.specs.declared.statement.Name.TheVariants as names
-use Rattle.script.specs.declared.statement.Places.{Places}
-use Rattle.script.specs.declared.statement.Declaration.{Declaration}
-use Rattle.script.specs.declared.statement.Declaration.TheVariants.{Station, Listed, Profile}
+use Rattle.statements.specs.declared.declaration.Name.{Name}
+use Rattle.statements.specs.declared.declaration.Name.TheVariants as names
+use Rattle.statements.specs.declared.declaration.Places.{Places}
+use Rattle.statements.specs.declared.declaration.Declaration.{Declaration}
+use Rattle.statements.specs.declared.declaration.Declaration.TheVariants.{Station, Listed, Profile}
 
 -- what is declared of a station
 pub record Plan : Type 0 where

@@ -3,13 +3,13 @@
 
 ghost use Rattle.std.specs.Prelude.{◌≡◌, None};
 ghost use Rattle.desk.specs.Desk.{planned, Enters, EntersDesk, Taken};
-ghost use Rattle.script.specs.Statements.{subject};
+ghost use Rattle.statements.specs.Declarations.{subject};
 
 pub mod answers;
 
 use rules::component::ComponentId;
 use rules::profile::ProfileLine;
-use script::statement::{Declaration, Name, Places};
+use statements::declaration::{Declaration, Name, Places};
 use std::alloc::Global;
 use std::fmt;
 

@@ -2,25 +2,30 @@
 // input, and answers on standard output.
 #![tactic(auto)]
 
+mod answers;
 mod hex;
 mod site;
 
+use answers::{Reply, Shown, verb};
+use calls::Call;
+use complaints::Complaint;
 use delivery::Gateway;
+use desk::answers::Answers;
 use desk::{Declared, Desk, DeskFault};
-use hex::Hex;
 use lines::LineCutter;
 use rules::refusal::Refusal;
-use script::calls::{Call, octets_word};
-use script::fault::{Expected, Fault};
-use script::numbers::octets;
-use script::statement::{Declaration, Name, Statement, read_statement};
+use statements::declaration::{Declaration, Name};
 use site::{Room, Site, Sites, settle};
-use station::protect::Sending;
+use statements::statement::{Statement, read_statement};
 use station::registers::Registers;
+use std::alloc::{AllocError, Global};
 use std::fmt::Display;
 use std::io::Read;
 use std::process::ExitCode;
 use std::{env, fs, io};
+use words::cut::word_at;
+use words::fault::{Expected, Fault};
+use words::numbers::{answer_number, octets};
 
 /// How standard input is called in a message.
 const STANDARD_INPUT: &str = "standard input";
@@ -30,23 +35,23 @@ const STANDARD_INPUT: &str = "standard input";
 struct Stopped;
 
 /// Says what the program cannot use, and why.
-fn stop(
+fn stop<T>(
     rt: &HostRuntime,
     what: &str,
     trouble: &str,
     reason: impl Display + Drop,
-) -> Result<(), Stopped> {
+) -> Result<T, Stopped> {
     let _ = eprintln!(rt; "{what}: {trouble}: {reason}");
     Err(Stopped)
 }
 
 /// Says which line stops the program.
-fn stop_at(
+fn stop_at<T>(
     rt: &HostRuntime,
     file: &str,
     line: u64,
     reason: impl Display + Drop,
-) -> Result<(), Stopped> {
+) -> Result<T, Stopped> {
     let _ = eprintln!(rt; "{file}:{line}: {reason}");
     Err(Stopped)
 }
@@ -100,33 +105,58 @@ fn ensure_made(
     }
 }
 
-/// How a call is written.
-fn verb(call: Call) -> &'static str {
-    match call {
-        Call::Admit { .. } => "admit",
-        Call::Install { .. } => "install",
-        Call::Revoke { .. } => "revoke",
-        Call::Protect { .. } => "protect",
-    }
-}
-
-/// The word of a line that has the octets of a call, `-` for a call that has none.
-fn octets_of(call: Call, line: &[u8]) -> &[u8] {
-    match call {
-        Call::Protect { .. } => octets_word(line),
-        _ => b"-",
-    }
-}
-
 /// How long the output of a call is.
 fn room_of(call: Call) -> usize {
     match call {
         Call::Protect { room, .. } => room as usize,
+        Call::Receive { room, .. } => room as usize,
         _ => 0,
     }
 }
 
-/// Makes a call, and answers it.
+/// The octets that a call takes: as they are written, or those of an answer above.
+fn octets_of(
+    rt: &HostRuntime,
+    answers: &Answers,
+    file: &str,
+    number: u64,
+    line: &[u8],
+    call: Call,
+) -> Result<Vec<u8>, Stopped> {
+    let Some(place) = call.octets_place() else {
+        return Ok(Vec::new(rt.alloc()));
+    };
+    let word = word_at(line, place);
+    let (octets, expected) = match answer_number(word) {
+        Some(answer) => (octets_again(rt.alloc(), answers, answer), Expected::Answer),
+        None => (octets(rt.alloc(), word), Expected::Octets),
+    };
+    match octets {
+        Ok(Some(octets)) => Ok(octets),
+        Ok(None) => {
+            let fault = Fault { place, expected };
+            stop_at(rt, file, number, Complaint { line, fault })
+        }
+        Err(_) => stop_at(rt, file, number, DeskFault::NoMemory),
+    }
+}
+
+/// The octets that an answer gave, once more.
+fn octets_again(
+    heap: Global,
+    answers: &Answers,
+    number: u64,
+) -> Result<Option<Vec<u8>>, AllocError> {
+    match answers.octets(number) {
+        Some(octets) => {
+            let again = Vec::from_slice(heap, octets)?;
+            Ok(Some(again))
+        }
+        None => Ok(None),
+    }
+}
+
+/// Makes a call, prints its answer, and keeps the octets that it gave.
 fn make_call(
     rt: &HostRuntime,
     sites: &mut Sites<'_, '_, '_, '_>,
@@ -134,41 +164,52 @@ fn make_call(
     number: u64,
     name: Name,
     call: Call,
-    cleartext: &[u8],
+    octets: Vec<u8>,
 ) -> Result<(), Stopped> {
-    let mut output = match vec![in rt.alloc(); 0u8; room_of(call)] {
-        Ok(output) => output,
-        Err(error) => return stop_at(rt, file, number, error),
+    let Ok(mut output) = vec![in rt.alloc(); 0u8; room_of(call)] else {
+        return stop_at(rt, file, number, DeskFault::NoMemory);
     };
-    let Some(outcome) = sites.call(name, call, cleartext, output.as_mut_slice()) else {
+    let Ok(()) = sites.answers.open() else {
+        return stop_at(rt, file, number, DeskFault::NoMemory);
+    };
+    let Some(reply) = sites.call(name, call, octets.as_slice(), output.as_mut_slice()) else {
         return stop_at(rt, file, number, DeskFault::NotDeclared(name));
     };
-    let count = sites.calls;
-    let verb = verb(call);
-    match outcome {
-        Ok(None) => written(rt, println!(rt; "{count} {name} {verb} ok")),
-        Ok(Some(Sending::Plain)) => written(rt, println!(rt; "{count} {name} {verb} plain")),
-        Ok(Some(Sending::Sent { mode, length })) => {
-            let mode = mode.number();
-            let hex = Hex {
-                octets: output.as_slice(),
-                length,
-            };
-            written(
-                rt,
-                println!(rt; "{count} {name} {verb} sent mode {mode} octets {length} {hex}"),
-            )
-        }
-        Err(refusal) => {
-            let (code, layer, place) = (refusal.number(), refusal.layer(), refusal.place());
-            written(
-                rt,
-                println!(rt; "{count} {name} {verb} refused {code} layer {layer} place {place}"),
-            )?;
-            tell_refusal(rt, file, number, refusal);
-            Ok(())
-        }
+    // plain writes nothing: what it hands on is what it was given
+    let given = if let Call::Plain { .. } = call {
+        octets
+    } else {
+        output
+    };
+    answer_call(rt, sites, file, number, name, verb(call), reply, given)
+}
+
+/// Prints the answer to a call, and keeps the octets that it gave.
+fn answer_call(
+    rt: &HostRuntime,
+    sites: &mut Sites<'_, '_, '_, '_>,
+    file: &str,
+    number: u64,
+    name: Name,
+    verb: &str,
+    reply: Reply,
+    mut octets: Vec<u8>,
+) -> Result<(), Stopped> {
+    let count = sites.answers.count();
+    octets.truncate(reply.length().unwrap_or(0));
+    let shown = Shown {
+        reply,
+        octets: octets.as_slice(),
+    };
+    written(rt, println!(rt; "{count} {name} {verb} {shown}"))?;
+    if let Some(refusal) = reply.refusal() {
+        tell_refusal(rt, file, number, refusal);
     }
+    if reply.length().is_some() {
+        octets.shrink_to_fit();
+        sites.answers.give(octets);
+    }
+    Ok(())
 }
 
 /// Does what a call says, once its octets are read.
@@ -182,23 +223,9 @@ fn call_line(
     name: Name,
     call: Call,
 ) -> Result<(), Stopped> {
-    let found = octets_of(call, line);
-    match octets(rt.alloc(), found) {
-        Ok(Some(cleartext)) => {
-            ensure_made(rt, desk, sites, file, number, name)?;
-            make_call(rt, sites, file, number, name, call, cleartext.as_slice())
-        }
-        Ok(None) => stop_at(
-            rt,
-            file,
-            number,
-            Fault {
-                found,
-                expected: Expected::Octets,
-            },
-        ),
-        Err(error) => stop_at(rt, file, number, error),
-    }
+    let octets = octets_of(rt, &sites.answers, file, number, line, call)?;
+    ensure_made(rt, desk, sites, file, number, name)?;
+    make_call(rt, sites, file, number, name, call, octets)
 }
 
 /// Does what a line says.
@@ -223,7 +250,7 @@ fn enter_line(
         Ok(Some(Statement::Calls { name, call })) => call_line(
             rt, desk, sites, file, number, line, name, call,
         ),
-        Err(fault) => stop_at(rt, file, number, fault),
+        Err(fault) => stop_at(rt, file, number, Complaint { line, fault }),
     }
 }
 
@@ -390,7 +417,7 @@ fn serve_both<'s, 'a, 't, 'b>(
             gateway: gateway_b,
             registers: registers_b,
         },
-        calls: 0,
+        answers: Answers::new(rt.alloc()),
     };
     serve(rt, &mut sites)
 }

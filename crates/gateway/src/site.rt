@@ -1,16 +1,19 @@
 // The stations of a run. Each is made at its first call, with the places that it was declared with.
+use crate::answers::{Reply, done, handed, sent};
+use calls::{Algorithms, Call, Lifetime, Parties};
 use keys::Key;
 use delivery::Gateway;
 use desk::Declared;
+use desk::answers::Answers;
 use rules::component::ComponentId;
 use rules::refusal::Refusal;
 use rules::settings::Settings;
-use script::calls::Call;
-use script::numbers::WrittenKey;
-use script::statement::{Name, Places};
-use station::protect::Sending;
+use statements::declaration::{Name, Places};
+use station::receive::Handed;
 use station::records::{HeardMessage, Policy, SecurityAssociation};
 use station::registers::Registers;
+use station::slip::{Answer, close};
+use words::numbers::WrittenKey;
 
 /// The places that one station may use.
 #[derive(Drop)]
@@ -28,12 +31,12 @@ pub struct Site<'s, 'a> {
     pub registers: &'s mut Registers<'a>,
 }
 
-/// Both stations, and how many calls there were.
+/// Both stations, and what their answers gave.
 #[derive(Drop)]
 pub struct Sites<'s, 'a, 't, 'b> {
     pub a: Site<'s, 'a>,
     pub b: Site<'t, 'b>,
-    pub calls: u64,
+    pub answers: Answers,
 }
 
 /// Empty registers in the first places of a room, as many as are declared.
@@ -90,16 +93,11 @@ impl<'s, 'a> Site<'s, 'a> {
     }
 
     /// Makes a call at the station; none, where it is not made.
-    pub fn call(
-        &mut self,
-        call: Call,
-        cleartext: &[u8],
-        output: &mut [u8],
-    ) -> Option<Result<Option<Sending>, Refusal>> {
+    pub fn call(&mut self, call: Call, octets: &[u8], output: &mut [u8]) -> Option<Reply> {
         let mut gateway = self.gateway.take()?;
-        let outcome = perform(&mut gateway, self.registers, call, cleartext, output);
+        let reply = perform(&mut gateway, self.registers, call, octets, output);
         *self.gateway = Some(gateway);
-        Some(outcome)
+        Some(reply)
     }
 }
 
@@ -120,18 +118,17 @@ impl<'s, 'a, 't, 'b> Sites<'s, 'a, 't, 'b> {
         }
     }
 
-    /// Makes a call at a station, and counts it.
+    /// Makes a call at a station; none, where it is not made.
     pub fn call(
         &mut self,
         name: Name,
         call: Call,
-        cleartext: &[u8],
+        octets: &[u8],
         output: &mut [u8],
-    ) -> Option<Result<Option<Sending>, Refusal>> {
-        self.calls = self.calls.saturating_add(1);
+    ) -> Option<Reply> {
         match name {
-            Name::A => self.a.call(call, cleartext, output),
-            Name::B => self.b.call(call, cleartext, output),
+            Name::A => self.a.call(call, octets, output),
+            Name::B => self.b.call(call, octets, output),
         }
     }
 }
@@ -142,51 +139,52 @@ fn key(written: WrittenKey) -> Key {
     Key { high, low }
 }
 
-/// Makes a call; `protect` alone answers with what became of its component.
+/// The association that is written.
+fn association(
+    parties: Parties,
+    algorithms: Algorithms,
+    lifetime: Lifetime,
+) -> SecurityAssociation {
+    SecurityAssociation {
+        sender: parties.sender,
+        destination: parties.destination,
+        spi: parties.spi,
+        mea: algorithms.mea,
+        cipher_key: key(algorithms.mek),
+        mia: algorithms.mia,
+        integrity_key: key(algorithms.mik),
+        ppi: lifetime.ppi,
+        soft: lifetime.soft,
+        hard: lifetime.hard,
+    }
+}
+
+/// The reply that an answer with a slip is, once its slip is closed.
+fn close_slip(answer: Answer<Handed>) -> Reply {
+    let Answer { outcome, slip } = answer;
+    handed(outcome, close(slip))
+}
+
+/// Makes a call with its octets and its output.
 fn perform(
     gateway: &mut Gateway,
     registers: &mut Registers<'_>,
     call: Call,
-    cleartext: &[u8],
+    octets: &[u8],
     output: &mut [u8],
-) -> Result<Option<Sending>, Refusal> {
+) -> Reply {
     match call {
-        Call::Admit { network, stance } => {
-            gateway.admit(registers, network, stance)?;
-            Ok(None)
-        }
+        Call::Admit { network, stance } => done(gateway.admit(registers, network, stance)),
         Call::Install {
             reading,
-            sender,
-            destination,
-            spi,
-            mea,
-            mek,
-            mia,
-            mik,
-            ppi,
-            soft,
-            hard,
+            parties,
+            algorithms,
+            lifetime,
         } => {
-            let association = SecurityAssociation {
-                sender,
-                destination,
-                spi,
-                mea,
-                cipher_key: key(mek),
-                mia,
-                integrity_key: key(mik),
-                ppi,
-                soft,
-                hard,
-            };
-            gateway.install(registers, reading, association)?;
-            Ok(None)
+            let association = association(parties, algorithms, lifetime);
+            done(gateway.install(registers, reading, association))
         }
-        Call::Revoke { destination, spi } => {
-            gateway.revoke(registers, destination, spi)?;
-            Ok(None)
-        }
+        Call::Revoke { destination, spi } => done(gateway.revoke(registers, destination, spi)),
         Call::Protect {
             reading,
             network,
@@ -195,10 +193,22 @@ fn perform(
             room: _,
         } => {
             let component = ComponentId { kind, code };
-            let sending = gateway.protect(
-                registers, reading, network, component, cleartext, output,
-            )?;
-            Ok(Some(sending))
+            sent(gateway.protect(registers, reading, network, component, octets, output))
+        }
+        Call::Receive {
+            reading,
+            network,
+            waiting,
+            room: _,
+        } => close_slip(gateway.receive(registers, reading, network, waiting, octets, output)),
+        Call::Plain {
+            reading,
+            kind,
+            code,
+            waiting,
+        } => {
+            let component = ComponentId { kind, code };
+            close_slip(gateway.plain(reading, component, waiting, octets))
         }
     }
 }

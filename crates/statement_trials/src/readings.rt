@@ -1,6 +1,6 @@
 // Lines that are read.
 use calls::Call;
-use script::statement::{Declaration, Name, Places};
+use statements::declaration::{Declaration, Name, Places};
 use statements::statement::{Statement, read_statement};
 use words::numbers::answer_number;
 

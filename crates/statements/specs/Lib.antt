@@ -1,1 +1,2 @@
+pub mod Declarations
 pub mod Statements

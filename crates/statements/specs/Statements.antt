@@ -8,11 +8,11 @@ use Rattle.words.specs.declared.fault.Expected.TheVariants as expected
 use Rattle.words.specs.declared.fault.Fault.{Fault}
 use Rattle.words.specs.declared.fault.Keyword.TheVariants.{Own, Ne, Back, Ahead, Fallback}
 use Rattle.calls.specs.Calls.{called_by}
-use Rattle.script.specs.declared.statement.Name.{Name}
-use Rattle.script.specs.declared.statement.Name.TheVariants as names
-use Rattle.script.specs.declared.statement.Places.{Places}
-use Rattle.script.specs.declared.statement.Declaration.{Declaration}
-use Rattle.script.specs.declared.statement.Declaration.TheVariants.{Station, Listed, Profile}
+use Rattle.statements.specs.declared.declaration.Name.{Name}
+use Rattle.statements.specs.declared.declaration.Name.TheVariants as names
+use Rattle.statements.specs.declared.declaration.Places.{Places}
+use Rattle.statements.specs.declared.declaration.Declaration.{Declaration}
+use Rattle.statements.specs.declared.declaration.Declaration.TheVariants.{Station, Listed, Profile}
 use Rattle.statements.specs.declared.statement.Statement.{Statement}
 use Rattle.statements.specs.declared.statement.Statement.TheVariants.{Declares, Calls}
 

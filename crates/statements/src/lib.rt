@@ -1,4 +1,5 @@
 // The command language of the gateway: a line is read into a statement.
 #![tactic(auto)]
 
+pub mod declaration;
 pub mod statement;

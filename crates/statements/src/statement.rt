@@ -4,7 +4,7 @@ ghost use Rattle.statements.specs.Statements.{name as name_of, name_at, three_pl
 ghost use Rattle.words.specs.declared.fault.Expected.TheVariants.{Text as NoText};
 
 use calls::{Call, read_call};
-use script::statement::{Declaration, Name, Places};
+use crate::declaration::{Declaration, Name, Places};
 use words::cut::{is, word_at};
 use words::fault::{Expected, Fault, Keyword};
 use words::fields::{

@@ -1,0 +1,67 @@
+// What is declared of the two stations of a run.
+ghost use Rattle.std.specs.Prelude.{◌≡◌};
+ghost use Rattle.statements.specs.Declarations.{subject};
+
+use std::fmt;
+
+/// One of the two stations of a run.
+#[derive(Clone, Copy)]
+pub enum Name {
+    A,
+    B,
+}
+
+/// How many records of each kind a station has room for.
+#[derive(Clone, Copy)]
+pub struct Places {
+    pub policies: u64,
+    pub associations: u64,
+    pub heard: u64,
+}
+
+/// What is declared of a station.
+#[derive(Clone, Copy)]
+pub enum Declaration {
+    Station {
+        name: Name,
+        own: u32,
+        ne_id: u64,
+        back: u64,
+        ahead: u64,
+        fallback: bool,
+        places: Places,
+    },
+    Listed {
+        name: Name,
+        kind: u8,
+        code: u8,
+    },
+    Profile {
+        name: Name,
+        ppi: u16,
+        code: u8,
+        level: u8,
+    },
+}
+
+impl Declaration {
+    /// The station that a declaration speaks of.
+    pub fn name(self) -> Name
+        ensures { result ≡ subject self }
+    {
+        match self {
+            Declaration::Station { name, .. } => name,
+            Declaration::Listed { name, .. } => name,
+            Declaration::Profile { name, .. } => name,
+        }
+    }
+}
+
+impl fmt::Display for Name {
+    fn fmt<W: fmt::Write>(&self, f: &mut fmt::Formatter<W>) -> fmt::Result {
+        match *self {
+            Name::A => write!(f, "A"),
+            Name::B => write!(f, "B"),
+        }
+    }
+}
