@@ -1,10 +1,10 @@
 // The stations of a run. Each is made at its first call, with the places that it was declared with.
 use crate::answers::{Reply, done, handed, sent};
 use calls::{Algorithms, Call, Lifetime, Parties};
-use keys::Key;
 use delivery::Gateway;
 use desk::Declared;
 use desk::answers::Answers;
+use keys::Key;
 use rules::component::ComponentId;
 use rules::refusal::Refusal;
 use rules::settings::Settings;
