@@ -7,6 +7,7 @@ ghost use Rattle.rules.specs.Layout.{part, open_header, sealed_header, iv_octets
 use crate::component::ComponentId;
 use crate::protection::ProtectionMode;
 use crate::refusal::Refusal;
+use octets::Octets;
 
 // How many octets the headers have, open and sealed, and the tag.
 pub const OPEN_HEADER: usize = 6;
@@ -38,7 +39,7 @@ impl SecurityHeader {
     pub fn open_octets(self) -> [u8; 6]
         ensures { result ≡ open_header self }
     {
-        let [s0, s1, s2, s3] = octets::of_u32(self.spi);
+        let [s0, s1, s2, s3]: [u8; 4] = self.spi.to_octets();
         [s0, s1, s2, s3, self.component.kind, self.component.code]
     }
 
@@ -47,9 +48,9 @@ impl SecurityHeader {
         ensures { result ≡ sealed_header self fields }
     {
         let [s0, s1, s2, s3, kind, code] = self.open_octets();
-        let [t0, t1, t2, t3] = octets::of_u32(fields.tvp);
-        let [n0, n1, n2, n3, n4, n5] = octets::of_u48(fields.ne_id);
-        let [p0, p1, p2, p3] = octets::of_u32(fields.prop);
+        let [t0, t1, t2, t3]: [u8; 4] = fields.tvp.to_octets();
+        let [n0, n1, n2, n3, n4, n5]: [u8; 6] = fields.ne_id.to_octets();
+        let [p0, p1, p2, p3]: [u8; 4] = fields.prop.to_octets();
         [
             s0, s1, s2, s3, kind, code, t0, t1, t2, t3, n0, n1, n2, n3, n4, n5, p0, p1, p2, p3,
         ]
@@ -79,9 +80,9 @@ impl IvFields {
     pub fn iv(self) -> [u8; 16]
         ensures { result ≡ iv_octets self }
     {
-        let [t0, t1, t2, t3] = octets::of_u32(self.tvp);
-        let [n0, n1, n2, n3, n4, n5] = octets::of_u48(self.ne_id);
-        let [p0, p1, p2, p3] = octets::of_u32(self.prop);
+        let [t0, t1, t2, t3]: [u8; 4] = self.tvp.to_octets();
+        let [n0, n1, n2, n3, n4, n5]: [u8; 6] = self.ne_id.to_octets();
+        let [p0, p1, p2, p3]: [u8; 4] = self.prop.to_octets();
         [t0, t1, t2, t3, n0, n1, n2, n3, n4, n5, p0, p1, p2, p3, 0, 0]
     }
 }
@@ -91,7 +92,7 @@ fn u32_at(octets: &[u8], place: usize) -> u32
     requires { place + 4 ≤ length octets.now }
     ensures { result ≡ number (part place 4 octets.now) }
 {
-    octets::to_u32([
+    u32::from_octets([
         octets[place],
         octets[place + 1],
         octets[place + 2],
@@ -104,7 +105,7 @@ fn u48_at(octets: &[u8], place: usize) -> u64
     requires { place + 6 ≤ length octets.now }
     ensures { result ≡ number (part place 6 octets.now) }
 {
-    octets::to_u48([
+    u64::from_octets([
         octets[place],
         octets[place + 1],
         octets[place + 2],

@@ -5,7 +5,7 @@ ghost use Rattle.rules.specs.Refusals.{setting_position, policy_position, associ
 use std::fmt;
 
 // The settings of a station, in the order in which they are checked.
-#[derive(Clone, Copy)]
+#[derive(Clone, Copy, Debug, PartialEq, Eq)]
 pub enum Setting {
     OwnNetwork = 1,
     NeId = 2,
@@ -16,32 +16,33 @@ pub enum Setting {
     ProfileLines = 7,
 }
 
-impl Setting {
-    // Its position among the settings, from 1 to 7.
-    pub fn position(self) -> u8
-        ensures { result ≡ setting_position self }
-    {
-        self as u8
+// Its position among the settings, from 1 to 7.
+impl From<Setting> for u8 {
+    ghost from_gives = { λ field position. position ≡ setting_position field };
+
+    fn from(field: Setting) -> u8 {
+        field as u8
     }
 }
 
 // The fields of a policy.
-#[derive(Clone, Copy)]
+#[derive(Clone, Copy, Debug, PartialEq, Eq)]
 pub enum PolicyField {
     Network = 1,
     Stance = 2,
 }
 
-impl PolicyField {
-    pub fn position(self) -> u8
-        ensures { result ≡ policy_position self }
-    {
-        self as u8
+// Its position in the policy, 1 or 2.
+impl From<PolicyField> for u8 {
+    ghost from_gives = { λ field position. position ≡ policy_position field };
+
+    fn from(field: PolicyField) -> u8 {
+        field as u8
     }
 }
 
 // The fields of a security association.
-#[derive(Clone, Copy)]
+#[derive(Clone, Copy, Debug, PartialEq, Eq)]
 pub enum AssociationField {
     Sender = 1,
     Destination = 2,
@@ -55,17 +56,17 @@ pub enum AssociationField {
     HardExpiry = 10,
 }
 
-impl AssociationField {
-    // Its position in the record, from 1 to 10.
-    pub fn position(self) -> u8
-        ensures { result ≡ association_position self }
-    {
-        self as u8
+// Its position in the record, from 1 to 10.
+impl From<AssociationField> for u8 {
+    ghost from_gives = { λ field position. position ≡ association_position field };
+
+    fn from(field: AssociationField) -> u8 {
+        field as u8
     }
 }
 
 // A cause for each refusal. A case holds what its place needs: a count of octets or places, or where in the message the fault lies.
-#[derive(Clone, Copy)]
+#[derive(Clone, Copy, Debug, PartialEq, Eq)]
 pub enum Refusal {
     MessageTooShort { length: usize },
     CleartextTooLong { place: usize },
@@ -134,8 +135,8 @@ impl Refusal {
             Refusal::UnknownKind { place } => place,
             Refusal::ListedUnprotected { place } => place,
             Refusal::KeyHeld => 3,
-            Refusal::WrongPolicy { field } => usize::from(field.position()),
-            Refusal::WrongAssociation { field } => usize::from(field.position()),
+            Refusal::WrongPolicy { field } => usize::from(u8::from(field)),
+            Refusal::WrongAssociation { field } => usize::from(u8::from(field)),
             Refusal::RegisterFull { capacity } => capacity,
             Refusal::OutsideWindow => 6,
             Refusal::TagDiffers { place } => place,
@@ -143,7 +144,7 @@ impl Refusal {
             Refusal::HeardFull { capacity } => capacity,
             Refusal::TickFull => 200,
             Refusal::OutputTooShort { needed } => needed,
-            Refusal::WrongSetting { setting } => usize::from(setting.position()),
+            Refusal::WrongSetting { setting } => usize::from(u8::from(setting)),
             Refusal::WrongReading
             | Refusal::NoPolicy
             | Refusal::SecuredFromPlainNetwork

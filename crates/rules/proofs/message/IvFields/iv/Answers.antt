@@ -4,4 +4,4 @@ use Rattle.rules.proofs.message.IvFields.iv.Goals as goal
 
 pub returns : goal.returns
 unfolding octets_of iv_part
-returns c = simp (c.of_u32.ensures, c.of_u48.ensures, c.of_u32-2.ensures)
+returns c = simp (c.to_octets.ensures, c.to_octets-2.ensures, c.to_octets-3.ensures)

@@ -4,4 +4,4 @@ use Rattle.rules.proofs.message.SecurityHeader.open_octets.Goals as goal
 
 pub returns : goal.returns
 unfolding octets_of open_header
-returns c = simp c.of_u32.ensures
+returns c = simp c.to_octets.ensures

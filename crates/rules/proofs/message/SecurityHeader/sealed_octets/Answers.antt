@@ -4,4 +4,4 @@ use Rattle.rules.proofs.message.SecurityHeader.sealed_octets.Goals as goal
 
 pub returns : goal.returns
 unfolding octets_of open_header iv_part
-returns c = simp (c.open_octets.ensures, c.of_u32.ensures, c.of_u48.ensures, c.of_u32-2.ensures)
+returns c = simp (c.open_octets.ensures, c.to_octets.ensures, c.to_octets-2.ensures, c.to_octets-3.ensures)
