@@ -18,10 +18,10 @@ pub enum Setting {
 
 // Its position among the settings, from 1 to 7.
 impl From<Setting> for u8 {
-    ghost from_gives = { λ field position. position ≡ setting_position field };
+    ghost from_gives = { λ setting position. position ≡ setting_position setting };
 
-    fn from(field: Setting) -> u8 {
-        field as u8
+    fn from(setting: Setting) -> u8 {
+        setting as u8
     }
 }
 
@@ -36,8 +36,8 @@ pub enum PolicyField {
 impl From<PolicyField> for u8 {
     ghost from_gives = { λ field position. position ≡ policy_position field };
 
-    fn from(field: PolicyField) -> u8 {
-        field as u8
+    fn from(policy_field: PolicyField) -> u8 {
+        policy_field as u8
     }
 }
 
@@ -60,8 +60,8 @@ pub enum AssociationField {
 impl From<AssociationField> for u8 {
     ghost from_gives = { λ field position. position ≡ association_position field };
 
-    fn from(field: AssociationField) -> u8 {
-        field as u8
+    fn from(association_field: AssociationField) -> u8 {
+        association_field as u8
     }
 }
 
@@ -131,17 +131,16 @@ impl Refusal {
     {
         match self {
             Refusal::MessageTooShort { length } => length,
-            Refusal::CleartextTooLong { place } => place,
-            Refusal::UnknownKind { place } => place,
-            Refusal::ListedUnprotected { place } => place,
+            Refusal::CleartextTooLong { place }
+            | Refusal::UnknownKind { place }
+            | Refusal::ListedUnprotected { place }
+            | Refusal::TagDiffers { place } => place,
             Refusal::KeyHeld => 3,
             Refusal::WrongPolicy { field } => usize::from(u8::from(field)),
             Refusal::WrongAssociation { field } => usize::from(u8::from(field)),
-            Refusal::RegisterFull { capacity } => capacity,
+            Refusal::RegisterFull { capacity } | Refusal::HeardFull { capacity } => capacity,
             Refusal::OutsideWindow => 6,
-            Refusal::TagDiffers { place } => place,
             Refusal::HeardBefore => 6,
-            Refusal::HeardFull { capacity } => capacity,
             Refusal::TickFull => 200,
             Refusal::OutputTooShort { needed } => needed,
             Refusal::WrongSetting { setting } => usize::from(u8::from(setting)),
