@@ -1,15 +1,18 @@
 -- Messages laid out and read.
-use Rattle.std.proofs.Common.{◌≡◌, ℕ, ◌+◌, ◌-◌, ◌^◌, ◌<◌, ◌≤◌, List, ◌++◌, length, take, drop, sym, refl, ap, ◌∙◌, arith}
+use Rattle.std.proofs.Common.{◌≡◌, ℕ, suc, ◌+◌, ◌-◌, ◌^◌, ◌<◌, ◌≤◌, List, ◌∷◌, ◌++◌, length, get_or, take, drop, sym, refl, ap, ◌∙◌, arith}
 use Rattle.std.proofs.ByRecursion.{All-take, All-drop}
-use Rattle.std.proofs.lemmas.List.{append_assoc, take-append-drop, take_all, take_at, take_rest, drop_at, drop-drop, drop-take, take-take, length-take-le, length-drop, length-append}
+use Rattle.std.proofs.lemmas.List.{append_assoc, take-append-drop, take_all, take_at, take_rest, drop_at, drop_more, drop-drop, drop-take, take-take, length-take-le, length-drop, length-append}
 use Rattle.octets.specs.Numbers.{Octets, octets_of, number}
 use Rattle.octets.proofs.Widths.{length_octets, octets_number, stand_for_each_other}
 use Rattle.rules.specs.declared.message.IvFields.{IvFields}
 use Rattle.rules.specs.declared.message.SecurityHeader.{SecurityHeader}
 use Rattle.rules.specs.Layout.{part, open_header, iv_part, sealed_header, open_message, sealed_message, header_in, fields_in, sealed_payload, tag_in, HeaderFits, FieldsFit, OpenUndone, SealedUndone, ReadingUndoesLayingOut}
-use Rattle.rules.proofs.Parts.{part_more}
 
 -- PARTS
+
+-- the octet at a place, and then the rest of the part
+part_more : (xs : List ℕ) (place width : ℕ) → place < length xs → part place (suc width) xs ≡ get_or xs place 0 ∷ part (place + 1) width xs
+part_more xs place width h = ap (take (suc width)) (drop_more xs place 0 h)
 
 -- two parts that lie side by side are one
 part_joins : (xs : List ℕ) (place a b : ℕ) → part place (a + b) xs ≡ part place a xs ++ part (place + a) b xs

@@ -1,4 +1,3 @@
 pub mod Layouts
-pub mod Parts
 pub mod Stages
 pub mod Ticks

@@ -1,5 +1,7 @@
 -- Protection profiles.
-use Rattle.std.specs.Prelude.{ℕ, Bool, true, cond, not, ◌&&◌, List, [], ◌∷◌, is_some, Some, None, Option, ◌==◌, nat_le}
+use Rattle.std.specs.Prelude.{ℕ, Bool, true, not, ◌&&◌, List, [], ◌∷◌, is_some, Some, None, Option, ◌==◌, find}
+use Rattle.std.specs.List.{list_all}
+use Rattle.std.specs.Option.{option_map}
 use Rattle.rules.specs.declared.component.ComponentKind.{ComponentKind}
 use Rattle.rules.specs.declared.component.ComponentId.{ComponentId}
 use Rattle.rules.specs.declared.protection.LevelModes.{LevelModes}
@@ -11,8 +13,7 @@ use Rattle.rules.specs.Modes.{row_of, mode_in_row}
 
 -- the level of the line with a PPI and a code
 abbrev pub level_in : ℕ → ℕ → List ProfileLine → Option ℕ
-level_in ppi code [] = None
-level_in ppi code (l ∷ ls) = cond (l.ppi == ppi && l.code == code) (Some l.level) (level_in ppi code ls)
+level_in ppi code lines = option_map (λ l. l.level) (find (λ l. l.ppi == ppi && l.code == code) lines)
 
 abbrev pub row_at : Option ℕ → Option LevelModes
 row_at None = None
@@ -34,8 +35,7 @@ mode_in lines ppi id = mode_at (kind_of id.kind) (row_in ppi id.code lines)
 
 -- each level is 1 to 6
 abbrev pub levels_known : List ProfileLine → Bool
-levels_known [] = true
-levels_known (l ∷ ls) = (nat_le 1 l.level && nat_le l.level 6) && levels_known ls
+levels_known lines = list_all (λ l. is_some (row_of l.level)) lines
 
 -- no line is followed by one of the same PPI and code
 abbrev pub lines_apart : List ProfileLine → Bool

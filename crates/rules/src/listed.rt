@@ -8,22 +8,12 @@ use crate::component::ComponentId;
 pub(crate) fn kinds_known(listed: &[ComponentId]) -> bool
     ensures { result ≡ kinds_known listed.now }
 {
-    for id in listed {
-        if (id.kind < 1) | (id.kind > 3) {
-            return false;
-        }
-    }
-    true
+    listed.iter().all(|id| id.known_kind().is_some())
 }
 
 // Whether the identifier is among them.
 pub(crate) fn lists(listed: &[ComponentId], id: ComponentId) -> bool
     ensures { result ≡ listed_in id listed.now }
 {
-    for other in listed {
-        if (other.kind == id.kind) & (other.code == id.code) {
-            return true;
-        }
-    }
-    false
+    listed.contains(&id)
 }

@@ -2,7 +2,7 @@
 ghost use Rattle.std.specs.Prelude.{◌≡◌, ◌+◌, ◌≤◌, length};
 ghost use Rattle.octets.specs.Numbers.{number};
 ghost use Rattle.rules.specs.Checks.{decided};
-ghost use Rattle.rules.specs.Layout.{part, open_header, sealed_header, iv_octets, header_in, fields_in, header_checks, Reads, ReadingUndoesLayingOut};
+ghost use Rattle.rules.specs.Layout.{part, open_header, sealed_header, iv_part, iv_octets, header_in, fields_in, header_checks, Reads, ReadingUndoesLayingOut};
 
 use crate::component::ComponentId;
 use crate::protection::ProtectionMode;
@@ -20,14 +20,14 @@ pub const TAG: usize = 4;
 pub const SHORTEST_SEALED: usize = 24;
 
 // What every message starts with: the SPI, and the identifier of the component inside.
-#[derive(Clone, Copy)]
+#[derive(Clone, Copy, Debug, PartialEq, Eq)]
 pub struct SecurityHeader {
     pub spi: u32,
     pub component: ComponentId,
 }
 
 // What the header of a protected message has besides, and the IV is made of: the stamp (TVP), the sending element and its count.
-#[derive(Clone, Copy)]
+#[derive(Clone, Copy, Debug, PartialEq, Eq)]
 pub struct IvFields {
     pub tvp: u32,
     pub ne_id: u64,
@@ -36,6 +36,7 @@ pub struct IvFields {
 
 impl SecurityHeader {
     // The header of a message in mode 0: SPI 4, kind 1, code 1.
+    #[tactic(auto, unfolding(octets::specs::Numbers::octets_of, crate::specs::Layout::open_header))]
     pub fn open_octets(self) -> [u8; 6]
         ensures { result ≡ open_header self }
     {
@@ -44,16 +45,14 @@ impl SecurityHeader {
     }
 
     // The header of a message in mode 1 or 2: SPI 4, kind 1, code 1, TVP 4, NE-Id 6, Prop 4.
+    #[tactic(auto, unfolding(octets::specs::Numbers::octets_of, crate::specs::Layout::open_header, crate::specs::Layout::iv_part))]
     pub fn sealed_octets(self, fields: IvFields) -> [u8; 20]
         ensures { result ≡ sealed_header self fields }
     {
-        let [s0, s1, s2, s3, kind, code] = self.open_octets();
-        let [t0, t1, t2, t3]: [u8; 4] = fields.tvp.to_octets();
-        let [n0, n1, n2, n3, n4, n5]: [u8; 6] = fields.ne_id.to_octets();
-        let [p0, p1, p2, p3]: [u8; 4] = fields.prop.to_octets();
-        [
-            s0, s1, s2, s3, kind, code, t0, t1, t2, t3, n0, n1, n2, n3, n4, n5, p0, p1, p2, p3,
-        ]
+        let mut octets = [0; SEALED_HEADER];
+        octets[..OPEN_HEADER].copy_from_slice(&self.open_octets());
+        octets[OPEN_HEADER..].copy_from_slice(&fields.octets());
+        octets
     }
 
     // The header of a message of either shape.
@@ -69,50 +68,42 @@ impl SecurityHeader {
             code: message[5],
         };
         Ok(SecurityHeader {
-            spi: u32_at(message, 0),
+            spi: number_at::<4, _>(message, 0),
             component,
         })
     }
 }
 
 impl IvFields {
-    // The IV: TVP, NE-Id, Prop and two zero octets.
-    pub fn iv(self) -> [u8; 16]
-        ensures { result ≡ iv_octets self }
+    // What a header and the IV have in common: TVP 4, NE-Id 6, Prop 4.
+    #[tactic(auto, unfolding(octets::specs::Numbers::octets_of, crate::specs::Layout::iv_part))]
+    fn octets(self) -> [u8; 14]
+        ensures { result ≡ iv_part self }
     {
         let [t0, t1, t2, t3]: [u8; 4] = self.tvp.to_octets();
         let [n0, n1, n2, n3, n4, n5]: [u8; 6] = self.ne_id.to_octets();
         let [p0, p1, p2, p3]: [u8; 4] = self.prop.to_octets();
-        [t0, t1, t2, t3, n0, n1, n2, n3, n4, n5, p0, p1, p2, p3, 0, 0]
+        [t0, t1, t2, t3, n0, n1, n2, n3, n4, n5, p0, p1, p2, p3]
+    }
+
+    // The IV: TVP, NE-Id, Prop and two zero octets.
+    pub fn iv(self) -> [u8; 16]
+        ensures { result ≡ iv_octets self }
+    {
+        let mut iv = [0; 16];
+        iv[..14].copy_from_slice(&self.octets());
+        iv
     }
 }
 
-// The number in the four octets from a place on.
-fn u32_at(octets: &[u8], place: usize) -> u32
-    requires { place + 4 ≤ length octets.now }
-    ensures { result ≡ number (part place 4 octets.now) }
+// The number in the N octets from a place on.
+fn number_at<const N: usize, T: Octets<N>>(octets: &[u8], place: usize) -> T
+    requires { place + N ≤ length octets.now }
+    ensures { T.value result ≡ number (part place N octets.now) }
 {
-    u32::from_octets([
-        octets[place],
-        octets[place + 1],
-        octets[place + 2],
-        octets[place + 3],
-    ])
-}
-
-// The number in the six octets from a place on.
-fn u48_at(octets: &[u8], place: usize) -> u64
-    requires { place + 6 ≤ length octets.now }
-    ensures { result ≡ number (part place 6 octets.now) }
-{
-    u64::from_octets([
-        octets[place],
-        octets[place + 1],
-        octets[place + 2],
-        octets[place + 3],
-        octets[place + 4],
-        octets[place + 5],
-    ])
+    let mut own = [0; N];
+    own.copy_from_slice(&octets[place..place + N]);
+    T::from_octets(own)
 }
 
 // Octets of a message, with the place of the first of them.
@@ -152,9 +143,9 @@ fn fields_of(message: &[u8]) -> IvFields
     ensures { result ≡ fields_in message.now }
 {
     IvFields {
-        tvp: u32_at(message, 6),
-        ne_id: u48_at(message, 10),
-        prop: u32_at(message, 16),
+        tvp: number_at::<4, _>(message, 6),
+        ne_id: number_at::<6, _>(message, 10),
+        prop: number_at::<4, _>(message, 16),
     }
 }
 
@@ -182,7 +173,7 @@ pub fn read(message: &[u8], mode: ProtectionMode) -> Result<Message<'_>, Refusal
                 place: end,
                 octets: &message[end..length],
             },
-            claimed: u32_at(message, end),
+            claimed: number_at::<4, _>(message, end),
         }));
     }
     if length < OPEN_HEADER {
@@ -201,6 +192,7 @@ pub fn read(message: &[u8], mode: ProtectionMode) -> Result<Message<'_>, Refusal
 }
 
 // The theorem: reading what was laid out gives the fields back.
+#[tactic(auto, using(crate::proofs::Layouts::undone))]
 pub fn reading_undoes_laying_out() -> u8
     ensures { ReadingUndoesLayingOut }
 {

@@ -5,7 +5,7 @@ ghost use Rattle.rules.specs.Modes.{mode_number, protects, mode_in_row, row_of};
 use crate::component::ComponentKind;
 
 // The protection modes of TS 33.200: none; integrity and authenticity; these and confidentiality.
-#[derive(Clone, Copy)]
+#[derive(Clone, Copy, Debug, PartialEq, Eq, PartialOrd, Ord)]
 pub enum ProtectionMode {
     NoProtection = 0,
     Integrity = 1,
@@ -23,15 +23,15 @@ impl ProtectionMode {
     pub fn protects(self) -> bool
         ensures { result ≡ protects self }
     {
-        match self {
-            ProtectionMode::NoProtection => false,
-            ProtectionMode::Integrity | ProtectionMode::Confidentiality => true,
-        }
+        matches!(
+            self,
+            ProtectionMode::Integrity | ProtectionMode::Confidentiality
+        )
     }
 }
 
 // The modes of one protection level, for each kind of component.
-#[derive(Clone, Copy)]
+#[derive(Clone, Copy, Debug, PartialEq, Eq)]
 pub struct LevelModes {
     pub invoke: ProtectionMode,
     pub result: ProtectionMode,
@@ -88,8 +88,6 @@ const LEVELS: [LevelModes; 6] = [
 pub fn level_modes(level: u8) -> Option<LevelModes>
     ensures { result ≡ row_of level }
 {
-    if (level < 1) | (level > 6) {
-        return None;
-    }
-    Some(LEVELS[level as usize - 1])
+    let row = usize::from(level).checked_sub(1)?;
+    LEVELS.get(row).copied()
 }

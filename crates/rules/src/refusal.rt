@@ -5,7 +5,7 @@ ghost use Rattle.rules.specs.Refusals.{setting_position, policy_position, associ
 use std::fmt;
 
 // The settings of a station, in the order in which they are checked.
-#[derive(Clone, Copy)]
+#[derive(Clone, Copy, Debug, PartialEq, Eq)]
 pub enum Setting {
     OwnNetwork = 1,
     NeId = 2,
@@ -16,32 +16,33 @@ pub enum Setting {
     ProfileLines = 7,
 }
 
-impl Setting {
-    // Its position among the settings, from 1 to 7.
-    pub fn position(self) -> u8
-        ensures { result ≡ setting_position self }
-    {
-        self as u8
+// Its position among the settings, from 1 to 7.
+impl From<Setting> for u8 {
+    ghost from_gives = { λ setting position. position ≡ setting_position setting };
+
+    fn from(setting: Setting) -> u8 {
+        setting as u8
     }
 }
 
 // The fields of a policy.
-#[derive(Clone, Copy)]
+#[derive(Clone, Copy, Debug, PartialEq, Eq)]
 pub enum PolicyField {
     Network = 1,
     Stance = 2,
 }
 
-impl PolicyField {
-    pub fn position(self) -> u8
-        ensures { result ≡ policy_position self }
-    {
-        self as u8
+// Its position in the policy, 1 or 2.
+impl From<PolicyField> for u8 {
+    ghost from_gives = { λ field position. position ≡ policy_position field };
+
+    fn from(policy_field: PolicyField) -> u8 {
+        policy_field as u8
     }
 }
 
 // The fields of a security association.
-#[derive(Clone, Copy)]
+#[derive(Clone, Copy, Debug, PartialEq, Eq)]
 pub enum AssociationField {
     Sender = 1,
     Destination = 2,
@@ -55,17 +56,17 @@ pub enum AssociationField {
     HardExpiry = 10,
 }
 
-impl AssociationField {
-    // Its position in the record, from 1 to 10.
-    pub fn position(self) -> u8
-        ensures { result ≡ association_position self }
-    {
-        self as u8
+// Its position in the record, from 1 to 10.
+impl From<AssociationField> for u8 {
+    ghost from_gives = { λ field position. position ≡ association_position field };
+
+    fn from(association_field: AssociationField) -> u8 {
+        association_field as u8
     }
 }
 
 // A cause for each refusal. A case holds what its place needs: a count of octets or places, or where in the message the fault lies.
-#[derive(Clone, Copy)]
+#[derive(Clone, Copy, Debug, PartialEq, Eq)]
 pub enum Refusal {
     MessageTooShort { length: usize },
     CleartextTooLong { place: usize },
@@ -130,20 +131,19 @@ impl Refusal {
     {
         match self {
             Refusal::MessageTooShort { length } => length,
-            Refusal::CleartextTooLong { place } => place,
-            Refusal::UnknownKind { place } => place,
-            Refusal::ListedUnprotected { place } => place,
+            Refusal::CleartextTooLong { place }
+            | Refusal::UnknownKind { place }
+            | Refusal::ListedUnprotected { place }
+            | Refusal::TagDiffers { place } => place,
             Refusal::KeyHeld => 3,
-            Refusal::WrongPolicy { field } => usize::from(field.position()),
-            Refusal::WrongAssociation { field } => usize::from(field.position()),
-            Refusal::RegisterFull { capacity } => capacity,
+            Refusal::WrongPolicy { field } => usize::from(u8::from(field)),
+            Refusal::WrongAssociation { field } => usize::from(u8::from(field)),
+            Refusal::RegisterFull { capacity } | Refusal::HeardFull { capacity } => capacity,
             Refusal::OutsideWindow => 6,
-            Refusal::TagDiffers { place } => place,
             Refusal::HeardBefore => 6,
-            Refusal::HeardFull { capacity } => capacity,
             Refusal::TickFull => 200,
             Refusal::OutputTooShort { needed } => needed,
-            Refusal::WrongSetting { setting } => usize::from(setting.position()),
+            Refusal::WrongSetting { setting } => usize::from(u8::from(setting)),
             Refusal::WrongReading
             | Refusal::NoPolicy
             | Refusal::SecuredFromPlainNetwork

@@ -6,6 +6,18 @@ ghost use Rattle.rules.specs.Listed.{kinds_known};
 use crate::component::ComponentId;
 use crate::profile::ProfileLine;
 
+// What a station is to be set to, as an operator writes it: no bound is looked at yet.
+#[derive(Drop)]
+pub struct Draft {
+    pub own: u32,
+    pub ne_id: u64,
+    pub back: u64,
+    pub ahead: u64,
+    pub fallback: bool,
+    pub listed: Vec<ComponentId>,
+    pub profile: Vec<ProfileLine>,
+}
+
 // Settings that hold their bounds: made only by `Settings::new` (module `checked`), so no later call has to ask.
 #[derive(Drop)]
 pub struct Settings {

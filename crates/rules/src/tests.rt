@@ -2,7 +2,7 @@
 use crate::component::ComponentId;
 use crate::profile::ProfileLine;
 use crate::refusal::{Refusal, Setting};
-use crate::settings::Settings;
+use crate::settings::{Draft, Settings};
 use std::alloc::Global;
 use std::test::Fail;
 
@@ -26,6 +26,19 @@ fn lines(heap: Global, count: u8, level: u8) -> Result<Vec<ProfileLine>, Fail> {
         })?;
     }
     Ok(profile)
+}
+
+// Settings that are 0 or not allowed but for these lists.
+fn with_lists(listed: Vec<ComponentId>, profile: Vec<ProfileLine>) -> Draft {
+    Draft {
+        own: 0,
+        ne_id: 0,
+        back: 0,
+        ahead: 0,
+        fallback: false,
+        listed,
+        profile,
+    }
 }
 
 // The place of the refusal, 0 where the settings are taken.
@@ -54,15 +67,15 @@ fn numbers_at_their_bounds(rt: HostRuntime) {
     for (own, ne_id, back, ahead, expected) in cases {
         let heap = rt.alloc();
         assert_eq!(rt;
-            place(Settings::new(
+            place(Settings::new(Draft {
                 own,
                 ne_id,
                 back,
                 ahead,
-                true,
-                Vec::new(heap),
-                Vec::new(heap),
-            )),
+                fallback: true,
+                listed: Vec::new(heap),
+                profile: Vec::new(heap),
+            })),
             expected
         );
     }
@@ -86,15 +99,10 @@ fn lists_at_their_bounds(rt: HostRuntime) -> Result<(), Fail> {
     for (listed, kind, profile, level, expected) in cases {
         let heap = rt.alloc();
         assert_eq!(rt;
-            place(Settings::new(
-                0,
-                0,
-                0,
-                0,
-                false,
+            place(Settings::new(with_lists(
                 identifiers(heap, listed, kind)?,
                 lines(heap, profile, level)?,
-            )),
+            ))),
             expected
         );
     }
@@ -113,7 +121,7 @@ fn lines_repeated(rt: HostRuntime) -> Result<(), Fail> {
             level: 2,
         })?;
         assert_eq!(rt;
-            place(Settings::new(0, 0, 0, 0, false, Vec::new(heap), profile)),
+            place(Settings::new(with_lists(Vec::new(heap), profile))),
             0
         );
         let mut profile = lines(heap, 32, 2)?;
@@ -123,7 +131,7 @@ fn lines_repeated(rt: HostRuntime) -> Result<(), Fail> {
             level: 2,
         })?;
         assert_eq!(rt;
-            place(Settings::new(0, 0, 0, 0, false, Vec::new(heap), profile)),
+            place(Settings::new(with_lists(Vec::new(heap), profile))),
             7
         );
     }

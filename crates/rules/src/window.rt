@@ -32,6 +32,7 @@ pub struct Window {
 
 impl Window {
     // Whether the stamp is fresh at the reading: whether some tick of the window has it, across the roll-over too.
+    #[tactic(auto, using(crate::proofs::Ticks::window_decides))]
     pub fn contains(self, reading: u64, stamp: u32) -> bool
         ensures test { result ≡ in_window self.back self.ahead reading stamp }
         ensures ticks { Decides result (SomeTickNear self.back self.ahead reading stamp) }

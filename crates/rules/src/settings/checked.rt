@@ -1,5 +1,6 @@
 // Making settings, and reading them.
-ghost use Rattle.std.specs.Prelude.{◌≡◌, ◌<◌, ◌≤◌, IfOk};
+ghost use Rattle.std.specs.Prelude.{◌≡◌, ◌<◌, ◌≤◌, cond, None, Some, IfOk};
+ghost use Rattle.rules.specs.declared.refusal.Refusal.TheVariants.{WrongSetting};
 ghost use Rattle.rules.specs.Checks.{first, refusal_of};
 ghost use Rattle.rules.specs.Listed.{listed_in};
 ghost use Rattle.rules.specs.Profiles.{mode_in};
@@ -11,53 +12,36 @@ use crate::listed::{kinds_known, lists};
 use crate::profile::{ProfileLine, levels_known, lines_apart, row_in};
 use crate::protection::ProtectionMode;
 use crate::refusal::{Refusal, Setting};
-use crate::settings::Settings;
+use crate::settings::{Draft, Settings};
 use crate::window::Window;
 
 impl Settings {
     // The settings, if each holds its bound; or the first, in their order, that does not.
-    pub fn new(
-        own: u32,
-        ne_id: u64,
-        back: u64,
-        ahead: u64,
-        fallback: bool,
-        listed: Vec<ComponentId>,
-        profile: Vec<ProfileLine>,
-    ) -> Result<Settings, Refusal>
-        ensures checked { refusal_of result ≡ first (setting_checks own ne_id back ahead listed.items profile.items) }
-        ensures holds { IfOk result (λ s. (s.own ≡ own) × (s.ne_id ≡ ne_id) × (s.back ≡ back) × (s.ahead ≡ ahead) × (s.fallback ≡ fallback) × (s.listed ≡ listed) × (s.profile ≡ profile)) }
+    pub fn new(draft: Draft) -> Result<Settings, Refusal>
+        ensures checked { refusal_of result ≡ first (setting_checks draft) }
+        ensures holds { IfOk result (λ s. (s.own ≡ draft.own) × (s.ne_id ≡ draft.ne_id) × (s.back ≡ draft.back) × (s.ahead ≡ draft.ahead) × (s.fallback ≡ draft.fallback) × (s.listed ≡ draft.listed) × (s.profile ≡ draft.profile)) }
     {
-        if own >= NETWORKS {
-            return Err(Refusal::WrongSetting {
-                setting: Setting::OwnNetwork,
-            });
-        }
-        if ne_id >= NE_IDS {
-            return Err(Refusal::WrongSetting {
-                setting: Setting::NeId,
-            });
-        }
-        if back > MOST_BACK {
-            return Err(Refusal::WrongSetting {
-                setting: Setting::Back,
-            });
-        }
-        if ahead > MOST_AHEAD {
-            return Err(Refusal::WrongSetting {
-                setting: Setting::Ahead,
-            });
-        }
-        if (listed.len() > MOST_LISTED) | !kinds_known(&listed) {
-            return Err(Refusal::WrongSetting {
-                setting: Setting::ProtectedList,
-            });
-        }
-        if (profile.len() > MOST_LINES) | !levels_known(&profile) | !lines_apart(&profile) {
-            return Err(Refusal::WrongSetting {
-                setting: Setting::ProfileLines,
-            });
-        }
+        let Draft {
+            own,
+            ne_id,
+            back,
+            ahead,
+            fallback,
+            listed,
+            profile,
+        } = draft;
+        check(own < NETWORKS, Setting::OwnNetwork)?;
+        check(ne_id < NE_IDS, Setting::NeId)?;
+        check(back <= MOST_BACK, Setting::Back)?;
+        check(ahead <= MOST_AHEAD, Setting::Ahead)?;
+        check(
+            (listed.len() <= MOST_LISTED) & kinds_known(&listed),
+            Setting::ProtectedList,
+        )?;
+        check(
+            (profile.len() <= MOST_LINES) & levels_known(&profile) & lines_apart(&profile),
+            Setting::ProfileLines,
+        )?;
         Ok(Settings {
             own,
             ne_id,
@@ -113,12 +97,19 @@ impl Settings {
     pub fn mode(&self, ppi: u16, id: ComponentId) -> ProtectionMode
         ensures { result ≡ mode_in self.now.profile.items ppi id }
     {
-        let Some(kind) = id.known_kind() else {
-            return ProtectionMode::NoProtection;
-        };
-        match row_in(&self.profile, ppi, id.code) {
-            Some(row) => row.mode(kind),
-            None => ProtectionMode::NoProtection,
-        }
+        id.known_kind()
+            .zip(row_in(&self.profile, ppi, id.code))
+            .map_or(ProtectionMode::NoProtection, |(kind, row)| row.mode(kind))
+    }
+}
+
+// Refuses a setting that does not hold its bound.
+fn check(holds: bool, setting: Setting) -> Result<(), Refusal>
+    ensures { refusal_of result ≡ cond holds None (Some (WrongSetting setting)) }
+{
+    if holds {
+        Ok(())
+    } else {
+        Err(Refusal::WrongSetting { setting })
     }
 }

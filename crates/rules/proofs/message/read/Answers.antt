@@ -16,7 +16,7 @@ returns-then-protects c =
     let four : n - (n - 4) ≡ 4 = omega arith in
     let ending : take (n - (n - 4)) (drop (n - 4) xs) ≡ part (n - 4) 4 xs = ap (λ k. take k (drop (n - 4) xs)) four in
     let fields = c.fields_of.ensures in
-    let tag = c.u32_at.ensures in
+    let tag = c.number_at.ensures in
     let whole = sealed_laid xs o (omega arith) in
     rw sealed (
       omega arith,
