@@ -1,6 +1,8 @@
 // Banks of ciphers and of tags: what they promise, and the ones that are delivered.
 #![tactic(auto)]
 
+pub mod banks;
+mod chain;
 pub mod cipher;
 mod counter;
 pub mod delivered;
