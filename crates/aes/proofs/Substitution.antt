@@ -1,6 +1,6 @@
 -- The table of the S-box, and its rule, by tests that antt computes at all 256 octets.
 -- Assumes nothing.
-use Rattle.std.proofs.Common.{◌≡◌, ℕ, ◌<◌, Bool, T, eqb, ltb, List, [], ◌∷◌, get_or, refl, inl, inr, ⊎_elim, eqb→eq, ltb→lt}
+use Rattle.std.proofs.Common.{◌≡◌, ℕ, ◌<◌, Bool, T, eqb, ltb, List, [], ◌∷◌, get_or, inl, inr, ⊎_elim, eqb→eq, ltb→lt}
 use Rattle.aes.specs.Field.{xtime, times_bits, times, power, Inverse}
 use Rattle.aes.specs.Sbox.{bit, affine_bit, affine_bits, affine, inverse, sbox, Substitutes}
 use Rattle.aes.proofs.Tests.{below, table_is, both, either, T-both, T-either}
@@ -51,6 +51,7 @@ inverse_is b h =
           (λ (o : T (eqb (times b (inverse b)) 1)). inr (eqb→eq _ _ o)) (T-either _ _ g.1);
     }
 
-pub rule : (b : ℕ) → b < 256 → Substitutes b (sbox b)
+-- an entry of the table stands by the rule
+pub rule : (b : ℕ) → b < 256 → Substitutes b (get_or table b 0)
 unfolding sbox
-rule b h = record { inverted = inverse b; is_inverse = inverse_is b h; is_image = refl }
+rule b h = record { inverted = inverse b; is_inverse = inverse_is b h; is_image = sbox_is b h }

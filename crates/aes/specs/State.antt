@@ -12,6 +12,10 @@ Word = Row
 abbrev pub blank_row : Row
 blank_row = record { c0 = 0; c1 = 0; c2 = 0; c3 = 0 }
 
+-- the octets of a row, or of a word, in their order
+abbrev pub row_octets : Row → List ℕ
+row_octets p = p.c0 ∷ p.c1 ∷ p.c2 ∷ p.c3 ∷ []
+
 -- row r of a state
 abbrev pub row : List Row → ℕ → Row
 row s r = slice_index_or s r blank_row

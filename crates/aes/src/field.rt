@@ -3,6 +3,7 @@ ghost use Rattle.std.specs.Prelude.{◌≡◌};
 ghost use Rattle.aes.specs.Field.{times};
 
 // 2 times an octet: shifted, and reduced by the modulus where a bit is carried out.
+#[tactic(auto, using(crate::proofs::Products::double_is))]
 pub(crate) fn double(octet: u8) -> u8
     ensures { result ≡ times 2 octet }
 {
@@ -10,6 +11,7 @@ pub(crate) fn double(octet: u8) -> u8
 }
 
 // 3 times an octet.
+#[tactic(auto, using(crate::proofs::Products::triple_is))]
 pub(crate) fn triple(octet: u8) -> u8
     ensures { result ≡ times 3 octet }
 {

@@ -22,6 +22,7 @@ const SBOX: [u8; 256] = [
 ];
 
 // The S-box at an octet: the affine map of its inverse in the field.
+#[tactic(auto, using(crate::proofs::Substitution::sbox_is))]
 pub fn sub_byte(octet: u8) -> u8
     ensures value { result ≡ sbox octet }
     ensures rule { Substitutes octet result }

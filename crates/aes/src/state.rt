@@ -1,12 +1,13 @@
 // The state, an array of four rows, and the transformations of a round.
 ghost use Rattle.std.specs.Prelude.{◌≡◌, ◌<◌};
-ghost use Rattle.aes.specs.State.{sub_row, sub_bytes, turn_row, shift_rows, mixed, mix_row, mix_columns, add_row, add_round_key, word_at, columns, state_of, octets_of};
+ghost use Rattle.aes.specs.State.{row_octets, sub_row, sub_bytes, turn_row, shift_rows, mixed, mix_row, mix_columns, add_row, add_round_key, word_at, columns, state_of, octets_of};
 
 use crate::field::{double, triple};
 use crate::sbox::sub_byte;
+use std::ops::BitXor;
 
 // Four octets: a row of the state, its columns from 0 to 3, or a word, its octets from 0 to 3.
-#[derive(Clone, Copy)]
+#[derive(Clone, Copy, Default)]
 pub struct Row {
     pub c0: u8,
     pub c1: u8,
@@ -42,16 +43,29 @@ impl Row {
             c3: self.c0,
         }
     }
+}
 
-    // The sum, octet by octet.
-    pub(crate) fn plus(self, other: Row) -> Row
-        ensures { result ≡ add_row self other }
-    {
+// The four octets, in their order.
+impl From<Row> for [u8; 4] {
+    ghost from_gives = { λ p octets. octets ≡ row_octets p };
+
+    fn from(row: Row) -> [u8; 4] {
+        [row.c0, row.c1, row.c2, row.c3]
+    }
+}
+
+// The sum, octet by octet.
+impl BitXor for Row {
+    type Output = Row;
+
+    ghost bitxor_gives = { λ p q sum. sum ≡ add_row p q };
+
+    fn bitxor(self, rhs: Row) -> Row {
         Row {
-            c0: self.c0 ^ other.c0,
-            c1: self.c1 ^ other.c1,
-            c2: self.c2 ^ other.c2,
-            c3: self.c3 ^ other.c3,
+            c0: self.c0 ^ rhs.c0,
+            c1: self.c1 ^ rhs.c1,
+            c2: self.c2 ^ rhs.c2,
+            c3: self.c3 ^ rhs.c3,
         }
     }
 }
@@ -60,12 +74,7 @@ impl Row {
 pub(crate) fn sub_bytes(s: State) -> State
     ensures { result ≡ sub_bytes s }
 {
-    [
-        s[0].substituted(),
-        s[1].substituted(),
-        s[2].substituted(),
-        s[3].substituted(),
-    ]
+    s.map(Row::substituted)
 }
 
 // ShiftRows: row r goes r places to the left.
@@ -81,6 +90,7 @@ pub(crate) fn shift_rows(s: State) -> State
 }
 
 // 2 p + 3 q + r + s in the field.
+#[tactic(auto, unfolding(crate::specs::State::mixed))]
 fn mix(p: u8, q: u8, r: u8, s: u8) -> u8
     ensures { result ≡ mixed p q r s }
 {
@@ -114,12 +124,7 @@ pub(crate) fn mix_columns(s: State) -> State
 pub(crate) fn add_round_key(s: State, k: State) -> State
     ensures { result ≡ add_round_key s k }
 {
-    [
-        s[0].plus(k[0]),
-        s[1].plus(k[1]),
-        s[2].plus(k[2]),
-        s[3].plus(k[3]),
-    ]
+    [s[0] ^ k[0], s[1] ^ k[1], s[2] ^ k[2], s[3] ^ k[3]]
 }
 
 // Word i of sixteen octets: those from 4 i on.

@@ -8,6 +8,7 @@ use Rattle.std.specs.Int.Bits.{xor_zero_r}
 use Rattle.std.proofs.lemmas.List.FromFn.{fill_by_all}
 use Rattle.std.proofs.ByRecursion.{All-take, All-from_get_or}
 use Rattle.std.proofs.lemmas.List.{append_assoc, length-set, length-append, length-replicate, length-take-le, length-drop, take-append-drop, take-append-le, drop-append-le, take_all, take_more_set, drop-set-lt, drop_more}
+use Rattle.std.proofs.lemmas.List.Sums.{fold-append}
 use Rattle.std.proofs.lemmas.Bool.{ne_eqb}
 use Rattle.octets.specs.Numbers.{Octets, number}
 use Rattle.banks.specs.Stream.{enciphered_small}
@@ -17,11 +18,10 @@ use Rattle.octets.proofs.Widths.{number_fits}
 use Rattle.aes.proofs.Bounds.{length_aes128}
 use Rattle.aes.specs.Cipher.{schedule, cipher, aes128}
 use Rattle.aes.specs.declared.state.Row.{Row}
-use Rattle.banks.specs.declared.mac.Chain.{Chain}
 use Rattle.banks.specs.Mia1.{Padding, padded, mac_blocks, blocks, xor_blocks, chain, mac, mia1}
-use Rattle.banks.specs.Running.{added, absorbed}
+use Rattle.banks.specs.Running.{ChainState, fresh, absorbed, ended}
 
-abbrev pub at : List ℕ → ℕ → Chain
+abbrev pub at : List ℕ → ℕ → ChainState
 at s u = record { value = s; filled = u }
 
 -- octets added to the front of a list
@@ -86,11 +86,6 @@ pub absorbed_last : (e : List ℕ → List ℕ) (s : List ℕ) (u x : ℕ) → u
 unfolding absorbed
 absorbed_last e s u x h = rw h refl
 
-pub folded_append : {X Y : Type 0} (f : Y → X → Y) (a : Y) (xs ys : List X)
-    → fold f a (xs ++ ys) ≡ fold f (fold f a xs) ys
-folded_append f a [] ys = refl
-folded_append f a (x ∷ xs) ys = folded_append f (f a x) xs ys
-
 module _ (e : List ℕ → List ℕ) where
   -- octets that do not fill the block
   part : (xs s : List ℕ) (u : ℕ) → length s ≡ 16 → u + length xs < 16
@@ -102,7 +97,7 @@ module _ (e : List ℕ → List ℕ) where
       let v = bit_xor (slice_index s u) x in
       let long : length (slice_set s u v) ≡ 16 = length-set s u v ∙ l in
       let count : u + 1 + length xs ≡ u + suc (length xs) = omega arith in
-      ap (λ (c : Chain). fold (absorbed e) c xs) (absorbed_more e s u x (λ q. omega arith))
+      ap (λ (c : ChainState). fold (absorbed e) c xs) (absorbed_more e s u x (λ q. omega arith))
       ∙ part xs (slice_set s u v) (u + 1) long (omega arith)
       ∙ λ i. at (from_more s u x xs (omega arith) i) (count i)
 
@@ -122,7 +117,7 @@ module _ (e : List ℕ → List ℕ) where
   full (x ∷ (y ∷ ys)) s u l h q =
       let v = bit_xor (slice_index s u) x in
       let long : length (slice_set s u v) ≡ 16 = length-set s u v ∙ l in
-      ap (λ (c : Chain). fold (absorbed e) c (y ∷ ys)) (absorbed_more e s u x (λ z. omega arith))
+      ap (λ (c : ChainState). fold (absorbed e) c (y ∷ ys)) (absorbed_more e s u x (λ z. omega arith))
       ∙ full (y ∷ ys) (slice_set s u v) (u + 1) long (omega arith) (omega arith)
       ∙ ap (λ (t : List ℕ). at (e t) 0) (from_more s u x (y ∷ ys) (omega arith))
 
@@ -161,17 +156,13 @@ unfolding padded
 padded_first xs h = take-append-le 16 xs (0x80 ∷ replicate (15 - length xs % 16) 0) h
 
 module _ (e : List ℕ → List ℕ) (sixteen : (b : List ℕ) → length (e b) ≡ 16) where
-  -- the end of the chain: the octet 0x80, and the block enciphered
-  pub ended : Chain → List ℕ
-  ended c = e (added c 0x80)
-
   ended_is : (n : ℕ) (h xs : List ℕ) → length h ≡ 16 → length xs / 16 ≡ n
-      → ended (fold (absorbed e) (at h 0) xs) ≡ chain e h (blocks (suc n) (padded xs))
+      → ended e (fold (absorbed e) (at h 0) xs) ≡ chain e h (blocks (suc n) (padded xs))
   unfolding ended chain blocks padded from
   ended_is zero h xs l q =
       let short : length xs < 16 = omega arith in
       let whole : take 16 (padded xs) ≡ padded xs = take_all 16 (padded xs) (omega (arith, length_padded xs)) in
-      ap ended (part e xs h 0 l (omega arith) ∙ ap (at (onto h xs)) (zero-add (length xs)))
+      ap (ended e) (part e xs h 0 l (omega arith) ∙ ap (at (onto h xs)) (zero-add (length xs)))
       ∙ ap e
       (sym (onto_push h xs 0x80 (omega arith))
       ∙ onto_is h (xs ++ 0x80 ∷ []) (padded xs) l (pad_unseen xs (15 - length xs % 16))
@@ -181,32 +172,31 @@ module _ (e : List ℕ → List ℕ) (sixteen : (b : List ℕ) → length (e b) 
       let b = take 16 xs in
       let ys = drop 16 xs in
       let next = e (xor_blocks h b) in
-      ap (λ (t : List ℕ). ended (fold (absorbed e) (at h 0) t)) (sym (take-append-drop 16 xs))
-      ∙ ap ended
-      (folded_append (absorbed e) (at h 0) b ys
-      ∙ ap (λ (c : Chain). fold (absorbed e) c ys)
+      ap (λ (t : List ℕ). ended e (fold (absorbed e) (at h 0) t)) (sym (take-append-drop 16 xs))
+      ∙ ap (ended e)
+      (fold-append (absorbed e) (at h 0) b ys
+      ∙ ap (λ (c : ChainState). fold (absorbed e) c ys)
       (full e b h 0 l (omega arith) (omega (arith, length-take-le 16 xs long))
       ∙ ap (λ (t : List ℕ). at (e t) 0) (onto_is h b b l (λ k. refl))))
       ∙ ended_is n next ys (sixteen (xor_blocks h b)) (omega (arith, length-drop 16 xs))
       ∙ sym (ap₂ (λ (f : List ℕ) (r : List ℕ). chain e (e (xor_blocks h f)) (blocks (suc n) r)) (padded_first xs long) (padded_rest xs long))
 
-  pub mac_is : (xs : List ℕ) → ended (fold (absorbed e) (at (replicate 16 0) 0) xs) ≡ mac e xs
+  pub mac_is : (xs : List ℕ) → ended e (fold (absorbed e) (at (replicate 16 0) 0) xs) ≡ mac e xs
   unfolding mac
   mac_is xs =
       ended_is (length xs / 16) (replicate 16 0) xs refl refl
       ∙ ap (λ (n : ℕ). chain e (replicate 16 0) (blocks n (padded xs))) (sym (add-one (length xs / 16)))
 
 -- the code's chain over two parts
-pub mac_of : (keys : List (List Row)) (k xs ys v : List ℕ) (c d : Chain) → keys ≡ schedule k
-    → c ≡ fold (absorbed (cipher keys)) (at (replicate 16 0) 0) xs → d ≡ fold (absorbed (cipher keys)) c ys
-    → v ≡ cipher keys (added d 0x80) → v ≡ mac (aes128 k) (xs ++ ys)
-unfolding aes128 ended
+pub mac_of : (keys : List (List Row)) (k xs ys v : List ℕ) (c d : ChainState) → keys ≡ schedule k
+    → c ≡ fold (absorbed (cipher keys)) fresh xs → d ≡ fold (absorbed (cipher keys)) c ys
+    → v ≡ ended (cipher keys) d → v ≡ mac (aes128 k) (xs ++ ys)
+unfolding aes128
 mac_of keys k xs ys v c d expanded first second last =
     let f = absorbed (cipher keys) in
     last
-    ∙ ap (λ (t : Chain). cipher keys (added t 0x80))
-    (second ∙ ap (λ (t : Chain). fold f t ys) first ∙ sym (folded_append f (at (replicate 16 0) 0) xs ys))
-    ∙ ap (λ (ks : List (List Row)). cipher ks (added (fold (absorbed (cipher ks)) (at (replicate 16 0) 0) (xs ++ ys)) 0x80)) expanded
+    ∙ ap (ended (cipher keys)) (second ∙ ap (λ (t : ChainState). fold f t ys) first ∙ sym (fold-append f fresh xs ys))
+    ∙ ap (λ (ks : List (List Row)). ended (cipher ks) (fold (absorbed (cipher ks)) fresh (xs ++ ys))) expanded
     ∙ mac_is (aes128 k) (length_aes128 k) (xs ++ ys)
 
 zeros_small : Octets (replicate 16 0)

@@ -45,12 +45,18 @@ abbrev pub either : {F : Type 0} → (ℕ → Option F) → (ℕ → Option F) �
 either m k number = or_else (m number) (k number)
 
 -- the null cipher, number 0
+abbrev pub unchanged : Cipher
+unchanged key iv xs = xs
+
 abbrev pub null_cipher : Ciphers
-null_cipher = only 0 (λ key iv xs. xs)
+null_cipher = only 0 unchanged
 
 -- the test cipher, number 15: each octet exclusive-or the key's first
 abbrev pub first_octet : Key → ℕ
 first_octet key = slice_index (key_octets key) 0
 
+abbrev pub first_octet_added : Cipher
+first_octet_added key iv xs = map (λ x. bit_xor x (first_octet key)) xs
+
 abbrev pub test_cipher : Ciphers
-test_cipher = only 15 (λ key iv xs. map (λ x. bit_xor x (first_octet key)) xs)
+test_cipher = only 15 first_octet_added

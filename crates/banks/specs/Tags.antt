@@ -27,5 +27,8 @@ abbrev pub LawfulTags : Tags → Type 0
 LawfulTags m = (n : ℕ) → IfSome (m n) (λ f. (n < 16) × ((key : Key) (xs : List ℕ) → f key xs < 2 ^ 32))
 
 -- the test tag, number 15: the sum of the octets and of the key's first four as a number, modulo 2^32
+abbrev pub octets_summed : Tag
+octets_summed key xs = (number (take 4 (key_octets key)) + sum xs) % 2 ^ 32
+
 abbrev pub test_tag : Tags
-test_tag = only 15 (λ key xs. (number (take 4 (key_octets key)) + sum xs) % 2 ^ 32)
+test_tag = only 15 octets_summed

@@ -1,9 +1,9 @@
 // Banks of ciphers.
-ghost use Rattle.std.specs.Prelude.{◌≡◌, ◌<◌, map, is_some, bit_xor};
-ghost use Rattle.banks.specs.Ciphers.{Ciphers, Lawful, ciphered, null_cipher, test_cipher, Involution};
-ghost use Rattle.banks.specs.Mea1.{mea1_cipher, mea1};
+ghost use Rattle.std.specs.Prelude.{◌≡◌, ℕ, ◌<◌, map, is_some, bit_xor};
+ghost use Rattle.banks.specs.Ciphers.{Cipher, Ciphers, Lawful, ciphered, only, unchanged, first_octet_added, Involution};
 ghost use Rattle.std.proofs.Common.{rules, arith};
 ghost use Rattle.banks.specs.Laws.{only_found};
+ghost use Rattle.banks.specs.Mea1.{mea1};
 ghost use Rattle.banks.specs.Stream.{mea1_involution, test_involution};
 
 use crate::counter::add_stream;
@@ -27,18 +27,38 @@ pub trait CipherBank {
     ghost lawful: { (bank : Self) → Lawful (means bank) };
 }
 
-// A bank that is lent is a bank.
-impl<C: CipherBank> CipherBank for &mut C {
-    ghost means = { λ b. C.CipherBank.means b.now };
+// One cipher, with its number.
+pub trait CipherAlgorithm {
+    const NUMBER: u8;
 
-    ghost lawful = { λ b. C.CipherBank.lawful b.now };
+    ghost NUMBER: { ℕ };
+
+    // Its function of key, IV and octets.
+    ghost function: { Cipher };
+
+    // Replaces the octets by the cipher's.
+    fn apply(key: &Key, iv: &Iv, octets: &mut [u8])
+        ensures { octets.new ≡ function key.now iv.now octets.old };
+
+    ghost small: { NUMBER < 16 };
+
+    ghost involution: { Involution function };
+}
+
+// A cipher is a bank that knows its number alone.
+impl<C: CipherAlgorithm> CipherBank for C {
+    ghost means = { λ _. only C.NUMBER C.function };
+
+    ghost lawful = { λ _. only_found (λ n f. (n < 16) × Involution f) C.NUMBER C.function (C.small, C.involution) };
 
     fn knows(&self, number: u8) -> bool {
-        (**self).knows(number)
+        number == C::NUMBER
     }
 
     fn run(&mut self, number: u8, key: &Key, iv: &Iv, octets: &mut [u8]) {
-        (**self).run(number, key, iv, octets);
+        if number == C::NUMBER {
+            C::apply(key, iv, octets);
+        }
     }
 }
 
@@ -46,35 +66,37 @@ impl<C: CipherBank> CipherBank for &mut C {
 #[derive(Clone, Copy)]
 pub struct NullCipher;
 
-impl CipherBank for NullCipher {
-    ghost means = { λ _. null_cipher };
+impl CipherAlgorithm for NullCipher {
+    const NUMBER: u8 = 0;
 
-    ghost lawful = { Prim.search rules };
+    ghost NUMBER = { 0 };
 
-    fn knows(&self, number: u8) -> bool {
-        number == 0
-    }
+    ghost function = { unchanged };
 
-    fn run(&mut self, _number: u8, _key: &Key, _iv: &Iv, _octets: &mut [u8]) {}
+    ghost small = { Prim.search rules };
+
+    ghost involution = { Prim.search rules };
+
+    fn apply(_key: &Key, _iv: &Iv, _octets: &mut [u8]) {}
 }
 
 // MEA-1, number 1: AES-128 in counter mode.
 #[derive(Clone, Copy)]
 pub struct Mea1;
 
-impl CipherBank for Mea1 {
-    ghost means = { λ _. mea1_cipher };
+impl CipherAlgorithm for Mea1 {
+    const NUMBER: u8 = 1;
 
-    ghost lawful = { λ bank. only_found (λ n f. (n < 16) × Involution f) 1 mea1 (omega arith, mea1_involution) };
+    ghost NUMBER = { 1 };
 
-    fn knows(&self, number: u8) -> bool {
-        number == 1
-    }
+    ghost function = { mea1 };
 
-    fn run(&mut self, number: u8, key: &Key, iv: &Iv, octets: &mut [u8]) {
-        if number == 1 {
-            add_stream(key, iv, octets);
-        }
+    ghost small = { Prim.search rules };
+
+    ghost involution = { mea1_involution };
+
+    fn apply(key: &Key, iv: &Iv, octets: &mut [u8]) {
+        add_stream(key, iv, octets);
     }
 }
 
@@ -91,19 +113,19 @@ fn add_octet(octets: &mut [u8], other: u8)
     }
 }
 
-impl CipherBank for TestCipher {
-    ghost means = { λ _. test_cipher };
+impl CipherAlgorithm for TestCipher {
+    const NUMBER: u8 = 15;
 
-    ghost lawful = { λ bank. only_found (λ n f. (n < 16) × Involution f) 15 _ (omega arith, test_involution) };
+    ghost NUMBER = { 15 };
 
-    fn knows(&self, number: u8) -> bool {
-        number == 15
-    }
+    ghost function = { first_octet_added };
 
-    fn run(&mut self, number: u8, key: &Key, _iv: &Iv, octets: &mut [u8]) {
-        if number == 15 {
-            let [first, ..] = <[u8; 16]>::from(*key);
-            add_octet(octets, first);
-        }
+    ghost small = { Prim.search rules };
+
+    ghost involution = { test_involution };
+
+    fn apply(key: &Key, _iv: &Iv, octets: &mut [u8]) {
+        let [first, ..] = <[u8; 16]>::from(*key);
+        add_octet(octets, first);
     }
 }

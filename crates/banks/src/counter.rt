@@ -8,6 +8,7 @@ use keys::{Iv, Key};
 use octets::Octets;
 
 // The enciphered counter block i.
+#[tactic(auto, unfolding(crate::specs::Mea1::counter_block))]
 fn output_block(keys: &RoundKeys, iv: &Iv, i: usize) -> [u8; 16]
     ensures { result ≡ cipher keys.now.rounds (counter_block iv.now i) }
 {
@@ -21,10 +22,11 @@ pub fn add_stream(key: &Key, iv: &Iv, octets: &mut [u8])
 {
     let keys = expand(<[u8; 16]>::from(*key));
     let mut block = [0; 16];
-    for i in 0..octets.len() {
+    // Octet by octet: of what `chunks_mut` lends, a proof learns nothing once the loan is over.
+    for (i, octet) in octets.iter_mut().enumerate() {
         if i % 16 == 0 {
             block = output_block(&keys, iv, i / 16);
         }
-        octets[i] ^= block[i % 16];
+        *octet ^= block[i % 16];
     }
 }

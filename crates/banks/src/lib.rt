@@ -1,9 +1,11 @@
 // Banks of ciphers and of tags: what they promise, and the ones that are delivered.
 #![tactic(auto)]
 
+mod chain;
 pub mod cipher;
 mod counter;
 pub mod delivered;
+pub mod lent;
 mod mac;
 pub mod pair;
 pub mod tag;

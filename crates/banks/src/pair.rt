@@ -7,6 +7,7 @@ use crate::tag::TagBank;
 use keys::{Iv, Key};
 
 // A bank of either sort: what the first means, or else the second.
+// Two impls: a bound names one trait, and one over both traits would have to take the calls as closures.
 #[derive(Clone, Copy)]
 pub struct Pair<X, Y>(pub X, pub Y);
 

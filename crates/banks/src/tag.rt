@@ -1,7 +1,8 @@
 // Banks of tags.
 ghost use Rattle.std.specs.Prelude.{◌≡◌, ℕ, ◌+◌, ◌%◌, ◌^◌, ◌<◌, List, ◌++◌, is_some, sum};
-ghost use Rattle.banks.specs.Mia1.{mia1_tag, Padding, mia1};
-ghost use Rattle.banks.specs.Tags.{Tags, LawfulTags, tagged, test_tag};
+ghost use Rattle.banks.specs.Mia1.{Padding, mia1};
+ghost use Rattle.banks.specs.Tags.{Tag, Tags, LawfulTags, tagged, octets_summed};
+ghost use Rattle.banks.specs.Ciphers.{only};
 ghost use Rattle.std.proofs.Common.{arith, rules};
 ghost use Rattle.keys.specs.declared.Key.{Key};
 ghost use Rattle.banks.specs.Chaining.{mia1_small};
@@ -28,18 +29,40 @@ pub trait TagBank {
     ghost lawful: { (bank : Self) → LawfulTags (means bank) };
 }
 
-// A bank that is lent is a bank.
-impl<T: TagBank> TagBank for &mut T {
-    ghost means = { λ b. T.TagBank.means b.now };
+// One tag, with its number.
+pub trait TagAlgorithm {
+    const NUMBER: u8;
 
-    ghost lawful = { λ b. T.TagBank.lawful b.now };
+    ghost NUMBER: { ℕ };
+
+    // Its function of key and octets.
+    ghost function: { Tag };
+
+    // The tag of the two parts joined.
+    fn of(key: &Key, first: &[u8], second: &[u8]) -> u32
+        ensures { result ≡ function key.now (first.now ++ second.now) };
+
+    ghost small: { NUMBER < 16 };
+
+    ghost bits: { (key : Key) (xs : List ℕ) → function key xs < 2 ^ 32 };
+}
+
+// A tag is a bank that knows its number alone.
+impl<T: TagAlgorithm> TagBank for T {
+    ghost means = { λ _. only T.NUMBER T.function };
+
+    ghost lawful = { λ _. only_found (λ n f. (n < 16) × ((key : Key) (xs : List ℕ) → f key xs < 2 ^ 32)) T.NUMBER T.function (T.small, T.bits) };
 
     fn knows(&self, number: u8) -> bool {
-        (**self).knows(number)
+        number == T::NUMBER
     }
 
     fn tag(&mut self, number: u8, key: &Key, first: &[u8], second: &[u8]) -> u32 {
-        (**self).tag(number, key, first, second)
+        if number == T::NUMBER {
+            T::of(key, first, second)
+        } else {
+            0
+        }
     }
 }
 
@@ -47,25 +70,24 @@ impl<T: TagBank> TagBank for &mut T {
 #[derive(Clone, Copy)]
 pub struct Mia1;
 
-impl TagBank for Mia1 {
-    ghost means = { λ _. mia1_tag };
+impl TagAlgorithm for Mia1 {
+    const NUMBER: u8 = 1;
 
-    ghost lawful = { λ bank. only_found (λ n f. (n < 16) × ((key : Key) (xs : List ℕ) → f key xs < 2 ^ 32)) 1 mia1 (omega arith, mia1_small) };
+    ghost NUMBER = { 1 };
 
-    fn knows(&self, number: u8) -> bool {
-        number == 1
-    }
+    ghost function = { mia1 };
 
-    fn tag(&mut self, number: u8, key: &Key, first: &[u8], second: &[u8]) -> u32 {
-        if number == 1 {
-            mac(key, first, second)
-        } else {
-            0
-        }
+    ghost small = { Prim.search rules };
+
+    ghost bits = { mia1_small };
+
+    fn of(key: &Key, first: &[u8], second: &[u8]) -> u32 {
+        mac(key, first, second)
     }
 }
 
 // The padding of MIA-1 goes to the least multiple of 16 above the length.
+#[tactic(auto, using(crate::specs::Chaining::padding))]
 pub fn padding_stands()
     ensures { Padding }
 {}
@@ -75,32 +97,31 @@ pub fn padding_stands()
 pub struct TestTag;
 
 // A start and all octets added up, modulo 2^32.
+#[tactic(auto, using(std::proofs::lemmas::List::Sums::sum_by_more))]
 fn add_up(start: u32, octets: &[u8]) -> u32
     ensures { result ≡ (start + sum octets.now) % 2 ^ 32 }
 {
     let mut total = start;
     for octet in octets {
-        total = total.wrapping_add(*octet as u32);
+        total = total.wrapping_add(u32::from(*octet));
     }
     total
 }
 
-impl TagBank for TestTag {
-    ghost means = { λ _. test_tag };
+impl TagAlgorithm for TestTag {
+    const NUMBER: u8 = 15;
 
-    ghost lawful = { Prim.search rules };
+    ghost NUMBER = { 15 };
 
-    fn knows(&self, number: u8) -> bool {
-        number == 15
-    }
+    ghost function = { octets_summed };
 
-    fn tag(&mut self, number: u8, key: &Key, first: &[u8], second: &[u8]) -> u32 {
-        if number == 15 {
-            let [a, b, c, d, ..] = <[u8; 16]>::from(*key);
-            let lead = u32::from_octets([a, b, c, d]);
-            add_up(add_up(lead, first), second)
-        } else {
-            0
-        }
+    ghost small = { Prim.search rules };
+
+    ghost bits = { Prim.search rules };
+
+    fn of(key: &Key, first: &[u8], second: &[u8]) -> u32 {
+        let [a, b, c, d, ..] = <[u8; 16]>::from(*key);
+        let lead = u32::from_octets([a, b, c, d]);
+        add_up(add_up(lead, first), second)
     }
 }
