@@ -4,15 +4,14 @@ use Rattle.banks.specs.Ciphers.{null_cipher}
 use Rattle.banks.specs.Delivered.{delivered_ciphers, delivered_tags}
 use Rattle.banks.specs.Mia1.{mac_blocks}
 use Rattle.banks.specs.Tags.{test_tag}
+use Rattle.cases.specs.Cases.{component, profile}
 use Rattle.keys.specs.declared.Key.{Key}
 use Rattle.rules.specs.Checks.{first}
 use Rattle.rules.specs.Layout.{iv_octets}
 use Rattle.rules.specs.Profiles.{mode_in}
 use Rattle.rules.specs.Refusals.{code_of}
 use Rattle.rules.specs.Window.{in_window}
-use Rattle.rules.specs.declared.component.ComponentId.{ComponentId}
 use Rattle.rules.specs.declared.message.IvFields.{IvFields}
-use Rattle.rules.specs.declared.profile.ProfileLine.{ProfileLine}
 use Rattle.rules.specs.declared.protection.ProtectionMode.TheVariants.{NoProtection, Integrity, Confidentiality}
 use Rattle.rules.specs.declared.refusal.Refusal.{Refusal}
 use Rattle.station.specs.Choice.{chosen_for}
@@ -23,13 +22,6 @@ use Rattle.station.specs.States.{Associations}
 use Rattle.station.specs.declared.records.SecurityAssociation.{SecurityAssociation}
 
 -- WHAT THE CASES SPEAK OF
-
-abbrev pub component : ℕ → ℕ → ComponentId
-component kind code = record { kind = kind; code = code }
-
--- PPI 7: code 37 has level 1, code 56 level 3
-abbrev pub profile : List ProfileLine
-profile = record { ppi = 7; code = 37; level = 1 } ∷ record { ppi = 7; code = 56; level = 3 } ∷ []
 
 -- number and place of a refusal, or none
 abbrev pub told : Option Refusal → Option (ℕ × ℕ)

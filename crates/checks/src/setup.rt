@@ -1,11 +1,11 @@
 // The two stations of the cases, and the lines that their logs are made of.
 use anyhow::anyhow;
 use banks::delivered::delivered;
+use cases::draft;
 use keys::Key;
 use rehearsal::log::{Answer, Call, Line, Side};
 use rehearsal::rehearse::{Places, Setup, rehearse};
 use rules::component::ComponentId;
-use rules::profile::ProfileLine;
 use rules::settings::Settings;
 use station::records::SecurityAssociation;
 use std::alloc::Global;
@@ -18,27 +18,17 @@ const NETWORK_B: u32 = 2;
 // Under PPI 7 an invoke of code 37 goes in mode 1.
 pub const INVOKE: ComponentId = ComponentId { kind: 1, code: 37 };
 
-// Settings: back 300, ahead 50, no fallback; PPI 7 gives code 37 level 1 and code 56 level 3, and what they protect is listed.
-fn settings(heap: Global, own: u32) -> anyhow::Result<Settings> {
-    let mut listed = Vec::new(heap);
-    listed.push(ComponentId { kind: 1, code: 37 })?;
-    listed.push(ComponentId { kind: 1, code: 56 })?;
-    listed.push(ComponentId { kind: 2, code: 56 })?;
-    let mut profile = Vec::new(heap);
-    profile.push(ProfileLine {
-        ppi: 7,
-        code: 37,
-        level: 1,
-    })?;
-    profile.push(ProfileLine {
-        ppi: 7,
-        code: 56,
-        level: 3,
-    })?;
-    match Settings::new(own, 0x123456789012, 300, 50, false, listed, profile) {
-        Ok(settings) => Ok(settings),
-        Err(_) => Err(anyhow!("the settings of the cases are refused")),
-    }
+// What a station of the cases is made with: no fallback, and so many places for heard messages.
+fn setup(heap: Global, own: u32, heard: usize) -> anyhow::Result<Setup> {
+    Ok(Setup {
+        settings: Settings::new(draft(heap, own, false)?)
+            .map_err(|_| anyhow!("the settings of the cases are refused"))?,
+        places: Places {
+            policies: 64,
+            associations: 256,
+            heard,
+        },
+    })
 }
 
 // An association of MEA 1 and MIA 1 that A sends to B under for a thousand ticks.
@@ -126,18 +116,11 @@ pub fn receives(reading: u64, message: &[u8]) -> Line<'_> {
 
 // What the stations answer to a log, where each has so many places for heard messages.
 pub fn answers(heap: Global, heard: usize, log: &[Line<'_>]) -> anyhow::Result<Vec<Answer>> {
-    let places = Places {
-        policies: 64,
-        associations: 256,
-        heard,
-    };
-    let a = Setup {
-        settings: settings(heap, NETWORK_A)?,
-        places,
-    };
-    let b = Setup {
-        settings: settings(heap, NETWORK_B)?,
-        places,
-    };
-    Ok(rehearse(heap, a, b, &mut delivered(), log)?)
+    Ok(rehearse(
+        heap,
+        setup(heap, NETWORK_A, heard)?,
+        setup(heap, NETWORK_B, heard)?,
+        &mut delivered(),
+        log,
+    )?)
 }

@@ -7,7 +7,7 @@ use desk::answers::Answers;
 use keys::Key;
 use rules::component::ComponentId;
 use rules::refusal::Refusal;
-use rules::settings::Settings;
+use rules::settings::{Draft, Settings};
 use statements::declaration::{Name, Places};
 use station::receive::Handed;
 use station::records::{HeardMessage, Policy, SecurityAssociation};
@@ -74,7 +74,15 @@ pub fn settle(declared: Declared) -> Result<Settings, Refusal> {
         listed,
         profile,
     } = declared;
-    Settings::new(own, ne_id, back, ahead, fallback, listed, profile)
+    Settings::new(Draft {
+        own,
+        ne_id,
+        back,
+        ahead,
+        fallback,
+        listed,
+        profile,
+    })
 }
 
 impl<'s, 'a> Site<'s, 'a> {

@@ -1,8 +1,7 @@
 // What the trials start from.
-use keys::Key;
+use cases::draft;
 use delivery::Gateway;
-use rules::component::ComponentId;
-use rules::profile::ProfileLine;
+use keys::Key;
 use rules::refusal::Refusal;
 use rules::settings::Settings;
 use station::protect::Sending;
@@ -22,27 +21,11 @@ pub fn gateway(heap: Global) -> Result<Gateway, Fail> {
     gateway_of(heap, OWN, false)
 }
 
-// A gateway of any network: back 300, ahead 50; PPI 7 gives code 37 level 1 and code 56 level 3.
+// A gateway of any network, with the settings of the worked cases.
 pub fn gateway_of(heap: Global, own: u32, fallback: bool) -> Result<Gateway, Fail> {
-    let mut listed = Vec::new(heap);
-    listed.push(ComponentId { kind: 1, code: 37 })?;
-    listed.push(ComponentId { kind: 1, code: 56 })?;
-    listed.push(ComponentId { kind: 2, code: 56 })?;
-    let mut profile = Vec::new(heap);
-    profile.push(ProfileLine {
-        ppi: 7,
-        code: 37,
-        level: 1,
-    })?;
-    profile.push(ProfileLine {
-        ppi: 7,
-        code: 56,
-        level: 3,
-    })?;
-    match Settings::new(own, 0x123456789012, 300, 50, fallback, listed, profile) {
-        Ok(settings) => Ok(Gateway::new(settings)),
-        Err(_) => Err(Fail::new("the settings of the trials are right")),
-    }
+    Settings::new(draft(heap, own, fallback)?)
+        .map(Gateway::new)
+        .map_err(|_| Fail::new("the settings of the trials are right"))
 }
 
 // An association of MEA 1 and MIA 1.
