@@ -1,5 +1,5 @@
 -- Worked cases: what the definitions that the calls' contracts cite give at the edges. Settings: back 300, ahead 50, no fallback.
-use Rattle.std.specs.Prelude.{◌≡◌, ℕ, true, false, List, [], ◌∷◌, Some, None, Option}
+use Rattle.std.specs.Prelude.{◌≡◌, ℕ, true, false, [], ◌∷◌, Some, None, Option}
 use Rattle.banks.specs.Ciphers.{null_cipher}
 use Rattle.banks.specs.Delivered.{delivered_ciphers, delivered_tags}
 use Rattle.banks.specs.Mia1.{mac_blocks}

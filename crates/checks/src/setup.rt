@@ -21,8 +21,9 @@ pub const INVOKE: ComponentId = ComponentId { kind: 1, code: 37 };
 // What a station of the cases is made with: no fallback, and so many places for heard messages.
 fn setup(heap: Global, own: u32, heard: usize) -> anyhow::Result<Setup> {
     Ok(Setup {
-        settings: Settings::new(draft(heap, own, false)?)
-            .map_err(|_| anyhow!("the settings of the cases are refused"))?,
+        settings: Settings::new(draft(heap, own, false)?).map_err(|_| anyhow!(
+            "the settings of the cases are refused"
+        ))?,
         places: Places {
             policies: 64,
             associations: 256,

@@ -8,6 +8,8 @@ mod hearing;
 #[cfg(test)]
 mod keeping;
 #[cfg(test)]
+mod lending;
+#[cfg(test)]
 mod receiving;
 #[cfg(test)]
 mod sending;
