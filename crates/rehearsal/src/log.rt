@@ -4,7 +4,7 @@ use rules::protection::ProtectionMode;
 use rules::refusal::Refusal;
 use station::records::SecurityAssociation;
 
-// The two stations of a log.
+// The two stations of a log. The command language has a `Name` of its own for them: it knows of no log.
 #[derive(Clone, Copy)]
 pub enum Side {
     A,
@@ -56,6 +56,7 @@ pub struct Line<'a> {
 }
 
 // The answer to a line; `report` is what closing the slip answered, 0 where there was none.
+// Five cases side by side, and no `Result` within: the laws name each of them at one depth.
 #[derive(Drop)]
 pub enum Answer {
     Done,

@@ -23,7 +23,8 @@ use rules::protection::ProtectionMode;
 use rules::refusal::Refusal;
 use rules::window::stamp_at;
 
-// What becomes of a component: it goes out as it is, or as a message at the front of the output.
+// What becomes of a component: it goes out as it is, or as a message at the front of the output, of this length.
+// Not an `Option`: going plain is an answer, and not the want of one. A length: a station has no memory to hand a message out in.
 #[derive(Clone, Copy)]
 pub enum Sending {
     Plain,

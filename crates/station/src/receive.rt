@@ -28,7 +28,7 @@ use rules::message::{
 use rules::protection::ProtectionMode;
 use rules::refusal::Refusal;
 
-// A component that is handed on; its cleartext is at the front of the output.
+// A component that is handed on; its cleartext is at the front of the output, of this length: a station has no memory of its own.
 #[derive(Clone, Copy)]
 pub struct Handed {
     pub component: ComponentId,

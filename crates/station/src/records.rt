@@ -41,6 +41,7 @@ pub struct AssociationKey {
 }
 
 // A security association, its fields in the order in which they are counted from 1.
+// MEA and MIA are numbers: which there are is for the banks to say.
 #[derive(Clone, Copy)]
 pub struct SecurityAssociation {
     pub sender: u32,

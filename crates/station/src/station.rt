@@ -40,6 +40,7 @@ impl Station {
     }
 
     // Sets the policy for a network: stance 0 removes it, 1 is plain, 2 is MAPsec.
+    // The stance is a number as the operator gives it: a wrong one is refused, so no type of three could be asked for.
     pub fn admit(
         &self,
         registers: &mut Registers<'_>,

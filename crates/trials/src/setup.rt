@@ -54,7 +54,7 @@ pub fn association(
     }
 }
 
-// The number and the place of a refusal, zeros where there is none.
+// The number and the place of a refusal, zeros where there is none: the trials speak in numbers, as the rules and an operator do.
 pub fn told(answer: Result<(), Refusal>) -> (u8, usize) {
     match answer {
         Ok(()) => (0, 0),
