@@ -5,7 +5,7 @@ use rules::refusal::Refusal;
 use station::records::SecurityAssociation;
 
 // The two stations of a log. The command language has a `Name` of its own for them: it knows of no log.
-#[derive(Clone, Copy)]
+#[derive(Clone, Copy, Debug, PartialEq, Eq)]
 pub enum Side {
     A,
     B,

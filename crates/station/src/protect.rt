@@ -25,7 +25,7 @@ use rules::window::stamp_at;
 
 // What becomes of a component: it goes out as it is, or as a message at the front of the output, of this length.
 // Not an `Option`: going plain is an answer, and not the want of one. A length: a station has no memory to hand a message out in.
-#[derive(Clone, Copy)]
+#[derive(Clone, Copy, Debug, PartialEq, Eq)]
 pub enum Sending {
     Plain,
     Sent { mode: ProtectionMode, length: usize },

@@ -29,7 +29,7 @@ use rules::protection::ProtectionMode;
 use rules::refusal::Refusal;
 
 // A component that is handed on; its cleartext is at the front of the output, of this length: a station has no memory of its own.
-#[derive(Clone, Copy)]
+#[derive(Clone, Copy, Debug, PartialEq, Eq)]
 pub struct Handed {
     pub component: ComponentId,
     pub mode: ProtectionMode,

@@ -13,7 +13,7 @@ pub enum Stance {
 }
 
 // The policy for a network, which never ends.
-#[derive(Clone, Copy)]
+#[derive(Clone, Copy, Debug, PartialEq, Eq)]
 pub struct Policy {
     pub network: u32,
     pub stance: Stance,
@@ -102,7 +102,7 @@ pub struct HeardKey {
 }
 
 // A message that was handed on, and the last tick at which it could still be fresh.
-#[derive(Clone, Copy)]
+#[derive(Clone, Copy, Debug, PartialEq, Eq)]
 pub struct HeardMessage {
     pub key: HeardKey,
     pub last: u64,
