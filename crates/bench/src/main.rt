@@ -3,9 +3,9 @@
 #![tactic(auto)]
 
 use anyhow::{Context, bail};
-use banks::cipher::CipherBank;
+use banks::cipher::{CipherAlgorithm, CipherBank, Mea1};
 use banks::delivered::delivered;
-use banks::tag::TagBank;
+use banks::tag::{Mia1, TagAlgorithm, TagBank};
 use keys::{Iv, Key};
 use std::env;
 
@@ -20,7 +20,7 @@ fn ciphered(count: u32) -> u8 {
     let mut banks = delivered();
     let mut octets = [0; SIZE];
     for _ in 0..count {
-        banks.ciphers.run(1, &KEY, &IV, &mut octets);
+        banks.ciphers.run(Mea1::NUMBER, &KEY, &IV, &mut octets);
     }
     octets[0]
 }
@@ -32,7 +32,9 @@ fn tagged(count: u32) -> u32 {
     let mut last = 0;
     for i in 0..count {
         octets[0] = (i % 256) as u8;
-        last ^= banks.tags.tag(1, &KEY, &octets[0..16], &octets[16..SIZE]);
+        last ^= banks
+            .tags
+            .tag(Mia1::NUMBER, &KEY, &octets[0..16], &octets[16..SIZE]);
     }
     last
 }

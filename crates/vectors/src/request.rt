@@ -3,9 +3,9 @@ use crate::fault::Fault;
 use crate::modes::{cbc, expanded};
 use crate::written;
 use aes::cipher::encrypt_block;
-use banks::cipher::CipherBank;
+use banks::cipher::{CipherAlgorithm, CipherBank, Mea1};
 use banks::delivered::delivered;
-use banks::tag::TagBank;
+use banks::tag::{Mia1, TagAlgorithm, TagBank};
 use hex::FromHexError;
 use keys::{Iv, Key};
 use octets::Octets;
@@ -118,16 +118,22 @@ impl Request {
                 mut octets,
             } => {
                 let mut banks = delivered();
-                banks
-                    .ciphers
-                    .run(1, &Key::from(key), &Iv::from(iv), octets.as_mut_slice());
+                banks.ciphers.run(
+                    Mea1::NUMBER,
+                    &Key::from(key),
+                    &Iv::from(iv),
+                    octets.as_mut_slice(),
+                );
                 Ok(octets)
             }
             Request::Mac { key, first, second } => {
                 let mut banks = delivered();
-                let tag = banks
-                    .tags
-                    .tag(1, &Key::from(key), first.as_slice(), second.as_slice());
+                let tag = banks.tags.tag(
+                    Mia1::NUMBER,
+                    &Key::from(key),
+                    first.as_slice(),
+                    second.as_slice(),
+                );
                 Ok(Vec::from_slice(heap, &tag.to_octets())?)
             }
             Request::Expand { key } => expanded(heap, key),
