@@ -1,6 +1,6 @@
 -- A block enciphered under a key of octets is sixteen octets.
 -- Assumes nothing.
-use Rattle.std.proofs.Common.{◌≡◌, ℕ, zero, suc, ◌+◌, ◌-◌, ◌*◌, ◌/◌, ◌%◌, ◌<◌, true, false, cond, eqb, ltb, List, length, get_or, refl, arith, ltb→lt}
+use Rattle.std.proofs.Common.{◌≡◌, ℕ, zero, suc, ◌+◌, ◌-◌, ◌*◌, ◌/◌, ◌%◌, ◌<◌, true, false, cond, eqb, ltb, List, length, get_or, refl, arith, rules, ltb→lt}
 use lib.Bits.{bit_xor, xor_lt}
 use Rattle.octets.specs.Numbers.{Octets}
 use Rattle.aes.specs.declared.state.Row.{Row}
@@ -38,20 +38,13 @@ record Small (w : Word) : Type 0 where
   s3 : w.c3 < 256
 
 add_small : (v w : Word) → Small v → Small w → Small (add_word v w)
-add_small v w p q =
-    record {
-      s0 = xor_lt 8 v.c0 w.c0 p.s0 q.s0;
-      s1 = xor_lt 8 v.c1 w.c1 p.s1 q.s1;
-      s2 = xor_lt 8 v.c2 w.c2 p.s2 q.s2;
-      s3 = xor_lt 8 v.c3 w.c3 p.s3 q.s3;
-    }
+add_small v w p q = search (rules, xor_lt 8)
 
 sub_small : (w : Word) → Small (sub_word w)
-sub_small w =
-    record { s0 = sbox_small w.c0; s1 = sbox_small w.c1; s2 = sbox_small w.c2; s3 = sbox_small w.c3 }
+sub_small w = search (rules, sbox_small)
 
 rcon_small : (j : ℕ) → Small (rcon j)
-rcon_small j = record { s0 = power_small (j - 1); s1 = omega arith; s2 = omega arith; s3 = omega arith }
+rcon_small j = search (rules, power_small)
 
 temp_small : (i : ℕ) (w : Word) → Small w → Small (temp i w)
 unfolding temp
@@ -63,64 +56,16 @@ temp_small i w p =
 
 -- an octet of the last round: one of the S-box and one of a round key
 one : (b k : ℕ) → k < 256 → bit_xor (sbox b) k < 256
-one b k h = xor_lt 8 (sbox b) k (sbox_small b) h
+one b k h = search (rules, xor_lt 8, sbox_small)
 
 last_small : (s : List Row) (p q r t : Word) → Small p → Small q → Small r → Small t
     → Octets (octets_of (last_round (columns p q r t) s))
 unfolding last_round
-last_small s p q r t p' q' r' t' = (
-  one (row s 0).c0 p.c0 p'.s0,
-  (
-    one (row s 1).c1 p.c1 p'.s1,
-    (
-      one (row s 2).c2 p.c2 p'.s2,
-      (
-        one (row s 3).c3 p.c3 p'.s3,
-        (
-          one (row s 0).c1 q.c0 q'.s0,
-          (
-            one (row s 1).c2 q.c1 q'.s1,
-            (
-              one (row s 2).c3 q.c2 q'.s2,
-              (
-                one (row s 3).c0 q.c3 q'.s3,
-                (
-                  one (row s 0).c2 r.c0 r'.s0,
-                  (
-                    one (row s 1).c3 r.c1 r'.s1,
-                    (
-                      one (row s 2).c0 r.c2 r'.s2,
-                      (
-                        one (row s 3).c1 r.c3 r'.s3,
-                        (
-                          one (row s 0).c3 t.c0 t'.s0,
-                          (
-                            one (row s 1).c0 t.c1 t'.s1,
-                            (
-                              one (row s 2).c1 t.c2 t'.s2,
-                              (
-                                one (row s 3).c2 t.c3 t'.s3,
-                                tt,
-                              ),
-                            ),
-                          ),
-                        ),
-                      ),
-                    ),
-                  ),
-                ),
-              ),
-            ),
-          ),
-        ),
-      ),
-    ),
-  ),
-)
+last_small s p q r t p' q' r' t' = search (rules, one)
 
 module _ (key : List ℕ) (h : (i : ℕ) → get_or key i 0 < 256) where
   at_small : (i : ℕ) → Small (word_at key i)
-  at_small i = record { s0 = h (4 * i); s1 = h (4 * i + 1); s2 = h (4 * i + 2); s3 = h (4 * i + 3) }
+  at_small i = search (rules, h)
 
   word_small : (i : ℕ) → Small (word key i)
   unfolding word

@@ -1,10 +1,10 @@
 // Numbers as octets, most significant octet first: the one place where the order of octets is decided.
 #![tactic(auto, using(crate::proofs::Widths::number_read), unfolding(crate::specs::Numbers::number, crate::specs::Numbers::octets_of))]
 
-ghost use Rattle.std.specs.Prelude.{◌≡◌, ◌^◌, ℕ};
+ghost use Rattle.std.specs.Prelude.{◌≡◌, ℕ};
 ghost use Rattle.octets.specs.Numbers.{octets_of, number, OctetsAndNumbers};
 
-// Numbers that are written in N octets.
+// Numbers that are written in N octets. Each width has its impl: u32 to u128 share no trait that has `to_be_bytes`.
 pub trait Octets<const N: usize>: Copy {
     // The number that a value is.
     ghost value: { Self → ℕ };
@@ -13,7 +13,7 @@ pub trait Octets<const N: usize>: Copy {
     fn to_octets(self) -> [u8; N]
         ensures { result ≡ octets_of N (value self) };
 
-    // The number that N octets are.
+    // The number that N octets are. Each impl repeats the clause: the check does not hand down one on an array of N.
     fn from_octets(octets: [u8; N]) -> Self
         ensures { value result ≡ number octets.entry };
 }

@@ -8,9 +8,9 @@ use std::alloc::Global;
 use std::io::{BufRead, BufReader};
 
 mod fault;
-mod hex;
 mod modes;
 mod request;
+mod written;
 
 use request::Request;
 
@@ -20,15 +20,14 @@ fn answer(heap: Global, line: &str) -> Result<Option<String>, fault::Fault> {
         return Ok(None);
     }
     let octets = request::read(heap, line)?.answer(heap)?;
-    Ok(Some(hex::written(heap, octets.as_slice())?))
+    Ok(Some(written::write(heap, octets.as_slice())?))
 }
 
 fn run(rt: &HostRuntime) -> anyhow::Result<()> {
     let heap = rt.alloc();
-    let mut number = 0u64;
-    for line in BufReader::new(heap, rt.stdin())?.lines(heap) {
+    let lines = BufReader::new(heap, rt.stdin())?.lines(heap);
+    for (number, line) in (1u64..).zip(lines) {
         let line = line?;
-        number = number.wrapping_add(1);
         match answer(heap, line.as_str()) {
             Ok(Some(text)) => println!(rt; "{text}")?,
             Ok(None) => {}

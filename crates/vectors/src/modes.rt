@@ -1,63 +1,36 @@
 // Modes of AES-128 that the banks have no use for.
-use aes::cipher::{RoundKeys, encrypt, expand};
+use crate::fault::Fault;
+use aes::cipher::{encrypt, expand};
 use aes::keys::words;
-use std::alloc::{AllocFailed, Global};
-
-// Octets as a block, where they are sixteen.
-pub fn sixteen(octets: &[u8]) -> Option<[u8; 16]> {
-    let [a, b, c, d, e, f, g, h, i, j, k, l, m, n, o, p] = octets else {
-        return None;
-    };
-    Some([
-        *a, *b, *c, *d, *e, *f, *g, *h, *i, *j, *k, *l, *m, *n, *o, *p,
-    ])
-}
+use std::alloc::Global;
 
 // Two blocks added.
 fn xor(x: [u8; 16], y: [u8; 16]) -> [u8; 16] {
-    let mut r = x;
-    for i in 0..16 {
-        r[i] ^= y[i];
+    let mut sum = x;
+    for (octet, other) in sum.iter_mut().zip(y) {
+        *octet ^= other;
     }
-    r
+    sum
 }
 
-// A block put at the end.
-fn extend(octets: &mut Vec<u8>, block: [u8; 16]) -> Result<(), AllocFailed<u8>> {
-    for octet in block {
-        octets.push(octet)?;
-    }
-    Ok(())
-}
-
-// CBC over whole blocks, or nothing where the octets are not whole blocks.
-pub fn cbc(
-    heap: Global,
-    key: [u8; 16],
-    iv: [u8; 16],
-    octets: &[u8],
-) -> Result<Option<Vec<u8>>, AllocFailed<u8>> {
+// CBC over whole blocks.
+pub fn cbc(heap: Global, key: [u8; 16], iv: [u8; 16], octets: &[u8]) -> Result<Vec<u8>, Fault> {
     let keys = expand(key);
     let mut out = Vec::new(heap);
     let mut chain = iv;
     for chunk in octets.chunks(16) {
-        let Some(block) = sixteen(chunk) else {
-            return Ok(None);
-        };
+        let block = <[u8; 16]>::try_from(chunk).map_err(|_| Fault::NotWhole)?;
         chain = encrypt(&keys, xor(chain, block));
-        extend(&mut out, chain)?;
+        out.extend_from_slice(&chain)?;
     }
-    Ok(Some(out))
+    Ok(out)
 }
 
 // The forty-four words of an expanded key.
-pub fn expanded(heap: Global, key: [u8; 16]) -> Result<Vec<u8>, AllocFailed<u8>> {
+pub fn expanded(heap: Global, key: [u8; 16]) -> Result<Vec<u8>, Fault> {
     let mut out = Vec::new(heap);
     for word in words(&key) {
-        out.push(word.c0)?;
-        out.push(word.c1)?;
-        out.push(word.c2)?;
-        out.push(word.c3)?;
+        out.extend_from_slice(&<[u8; 4]>::from(word))?;
     }
     Ok(out)
 }

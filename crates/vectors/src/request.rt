@@ -1,11 +1,12 @@
 // A request, read from a line and answered.
 use crate::fault::Fault;
-use crate::hex;
-use crate::modes::{cbc, expanded, sixteen};
+use crate::modes::{cbc, expanded};
+use crate::written;
 use aes::cipher::encrypt_block;
-use banks::cipher::CipherBank;
+use banks::cipher::{CipherAlgorithm, CipherBank, Mea1};
 use banks::delivered::delivered;
-use banks::tag::TagBank;
+use banks::tag::{Mia1, TagAlgorithm, TagBank};
+use hex::FromHexError;
 use keys::{Iv, Key};
 use octets::Octets;
 use std::alloc::Global;
@@ -38,72 +39,71 @@ pub enum Request {
     },
 }
 
-// The next word as octets.
-fn octets(
+// The words of a line that are still to be read, and where their octets go.
+#[derive(Drop)]
+struct Words<'a> {
+    rest: SplitWhitespace<'a>,
     heap: Global,
-    words: &mut SplitWhitespace<'_>,
-    what: &'static str,
-) -> Result<Vec<u8>, Fault> {
-    let Some(word) = words.next() else {
-        return Err(Fault::Missing(what));
-    };
-    match hex::read(heap, word)? {
-        Some(read) => Ok(read),
-        None => Err(Fault::NotHex(what)),
-    }
 }
 
-// The next word as sixteen octets.
-fn block(
-    heap: Global,
-    words: &mut SplitWhitespace<'_>,
-    what: &'static str,
-) -> Result<[u8; 16], Fault> {
-    let read = octets(heap, words, what)?;
-    match sixteen(read.as_slice()) {
-        Some(b) => Ok(b),
-        None => Err(Fault::NotSixteen(what)),
+impl Words<'_> {
+    // The next word as octets.
+    fn octets(&mut self, what: &'static str) -> Result<Vec<u8>, Fault> {
+        let word = self.rest.next().ok_or(Fault::Missing(what))?;
+        written::read(self.heap, word).map_err(|error| match error {
+            FromHexError::OutOfMemory => Fault::Memory,
+            _ => Fault::NotHex(what),
+        })
+    }
+
+    // The next word as sixteen octets.
+    fn block(&mut self, what: &'static str) -> Result<[u8; 16], Fault> {
+        let octets = self.octets(what)?;
+        <[u8; 16]>::try_from(octets.as_slice()).map_err(|_| Fault::NotSixteen(what))
+    }
+
+    // The request of a name, with the words that it takes.
+    fn request(&mut self, name: &str) -> Result<Request, Fault> {
+        match name {
+            "ecb" => Ok(Request::Ecb {
+                key: self.block("KEY")?,
+                block: self.block("BLOCK")?,
+            }),
+            "cbc" => Ok(Request::Cbc {
+                key: self.block("KEY")?,
+                iv: self.block("IV")?,
+                octets: self.octets("OCTETS")?,
+            }),
+            "ctr" => Ok(Request::Ctr {
+                key: self.block("KEY")?,
+                iv: self.block("IV")?,
+                octets: self.octets("OCTETS")?,
+            }),
+            "mac" => Ok(Request::Mac {
+                key: self.block("KEY")?,
+                first: self.octets("FIRST")?,
+                second: self.octets("SECOND")?,
+            }),
+            "expand" => Ok(Request::Expand {
+                key: self.block("KEY")?,
+            }),
+            _ => Err(Fault::Unknown),
+        }
     }
 }
 
 // The request of a line.
 pub fn read(heap: Global, line: &str) -> Result<Request, Fault> {
-    let mut words = line.split_whitespace();
-    let name = words.next().unwrap_or("");
-    let request = named(heap, name, &mut words)?;
-    if words.next().is_some() {
+    let mut words = Words {
+        rest: line.split_whitespace(),
+        heap,
+    };
+    let name = words.rest.next().unwrap_or("");
+    let request = words.request(name)?;
+    if words.rest.next().is_some() {
         return Err(Fault::TooMany);
     }
     Ok(request)
-}
-
-// The request of a name, with the words that it takes.
-fn named(heap: Global, name: &str, words: &mut SplitWhitespace<'_>) -> Result<Request, Fault> {
-    match name {
-        "ecb" => Ok(Request::Ecb {
-            key: block(heap, words, "KEY")?,
-            block: block(heap, words, "BLOCK")?,
-        }),
-        "cbc" => Ok(Request::Cbc {
-            key: block(heap, words, "KEY")?,
-            iv: block(heap, words, "IV")?,
-            octets: octets(heap, words, "OCTETS")?,
-        }),
-        "ctr" => Ok(Request::Ctr {
-            key: block(heap, words, "KEY")?,
-            iv: block(heap, words, "IV")?,
-            octets: octets(heap, words, "OCTETS")?,
-        }),
-        "mac" => Ok(Request::Mac {
-            key: block(heap, words, "KEY")?,
-            first: octets(heap, words, "FIRST")?,
-            second: octets(heap, words, "SECOND")?,
-        }),
-        "expand" => Ok(Request::Expand {
-            key: block(heap, words, "KEY")?,
-        }),
-        _ => Err(Fault::Unknown),
-    }
 }
 
 impl Request {
@@ -111,26 +111,32 @@ impl Request {
     pub fn answer(self, heap: Global) -> Result<Vec<u8>, Fault> {
         match self {
             Request::Ecb { key, block } => Ok(Vec::from_slice(heap, &encrypt_block(key, block))?),
-            Request::Cbc { key, iv, octets } => match cbc(heap, key, iv, octets.as_slice())? {
-                Some(out) => Ok(out),
-                None => Err(Fault::NotWhole),
-            },
-            Request::Ctr { key, iv, octets } => {
-                let mut octets = octets;
+            Request::Cbc { key, iv, octets } => cbc(heap, key, iv, octets.as_slice()),
+            Request::Ctr {
+                key,
+                iv,
+                mut octets,
+            } => {
                 let mut banks = delivered();
-                banks
-                    .ciphers
-                    .run(1, &Key::from(key), &Iv::from(iv), octets.as_mut_slice());
+                banks.ciphers.run(
+                    Mea1::NUMBER,
+                    &Key::from(key),
+                    &Iv::from(iv),
+                    octets.as_mut_slice(),
+                );
                 Ok(octets)
             }
             Request::Mac { key, first, second } => {
                 let mut banks = delivered();
-                let tag = banks
-                    .tags
-                    .tag(1, &Key::from(key), first.as_slice(), second.as_slice());
+                let tag = banks.tags.tag(
+                    Mia1::NUMBER,
+                    &Key::from(key),
+                    first.as_slice(),
+                    second.as_slice(),
+                );
                 Ok(Vec::from_slice(heap, &tag.to_octets())?)
             }
-            Request::Expand { key } => Ok(expanded(heap, key)?),
+            Request::Expand { key } => expanded(heap, key),
         }
     }
 }

@@ -23,17 +23,20 @@ loop-i-preserved c =
           w.block-is
           ∙ w.output_block-block.ensures
           ∙ ap (λ (ks : List (List Row)). cipher ks (counter_block iv (i / 16))) keys
-      | else-i-eq0 w ↦ w.block-is ∙ c.loop-i.invariant.3 (omega (arith, w.if-i-eq0.false))
+      | else-i-eq0 w ↦ w.block-is ∙ c.loop-i.invariant.current (omega (arith, w.if-i-eq0.false))
     ] in
-    let within : i < length c.loop-i.octets = omega arith in (
-      below_more _ _
-          (λ k h. let other : k ≢ i = omega arith in rw get_or-set_other (c.loop-i.invariant.0 k h))
+    let within : i < length c.loop-i.octets = omega arith in
+    record {
+      done =
+          below_more _ _
+          (λ k h. let other : k ≢ i = omega arith in rw get_or-set_other (c.loop-i.invariant.done k h))
           (rw get_or-set_same
-          (ap₂ bit_xor (c.loop-i.invariant.1 i (omega arith)) (ap (λ (b : List ℕ). get_or b (i % 16) 0) block))),
-      (λ k h. let other : k ≢ i = omega arith in rw get_or-set_other (c.loop-i.invariant.1 k (omega arith))),
-      (ap length block ∙ length_output key iv (i / 16)),
-      (λ h. let same : i / 16 ≡ (i + 1) / 16 = omega arith in block ∙ ap (output_block key iv) same),
-    )
+          (ap₂ bit_xor (c.loop-i.invariant.untouched i (omega arith)) (ap (λ (b : List ℕ). get_or b (i % 16) 0) block)));
+      untouched =
+          λ k h. let other : k ≢ i = omega arith in rw get_or-set_other (c.loop-i.invariant.untouched k (omega arith));
+      sixteen = ap length block ∙ length_output key iv (i / 16);
+      current = λ h. let same : i / 16 ≡ (i + 1) / 16 = omega arith in block ∙ ap (output_block key iv) same;
+    }
 
 pub returns : goal.returns
 unfolding mea1
@@ -41,4 +44,4 @@ returns c =
     let key = c.args.key.now in
     let iv = c.args.iv.now in
     fill_by_all (λ (j : ℕ). bit_xor (get_or c.args.octets.now j 0) (stream key iv j)) c.loop-i.octets
-    (length c.args.octets.now) 0 (omega arith) (λ k h. c.loop-i.invariant.0 k (omega arith))
+    (length c.args.octets.now) 0 (omega arith) (λ k h. c.loop-i.invariant.done k (omega arith))
