@@ -94,6 +94,15 @@ plain line =
     next (end_at 7 line) λ _.
     Ok (Plain reading kind code waiting)
 
+-- how a call is written
+abbrev pub verb : Call → List ℕ
+verb (Admit network stance) = codes "admit"
+verb (Install reading parties algorithms lifetime) = codes "install"
+verb (Revoke destination spi) = codes "revoke"
+verb (Protect reading network kind code room) = codes "protect"
+verb (Receive reading network waiting room) = codes "receive"
+verb (Plain reading kind code waiting) = codes "plain"
+
 -- where OCTETS stands
 abbrev pub octets_place : Call → Option ℕ
 octets_place (Admit network stance) = None

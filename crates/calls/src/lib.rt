@@ -1,12 +1,11 @@
 // The calls at a station, as the command language writes them.
-#![tactic(auto)]
+#![tactic(auto, unfolding(crate::specs::Calls::parties, crate::specs::Calls::algorithms, crate::specs::Calls::lifetime, crate::specs::Calls::admit, crate::specs::Calls::install, crate::specs::Calls::revoke, crate::specs::Calls::protect, crate::specs::Calls::receive, crate::specs::Calls::plain))]
 
 ghost use Rattle.std.specs.Prelude.{◌≡◌};
-ghost use Rattle.calls.specs.Calls.{parties, algorithms, lifetime, admit, install, revoke, protect, receive, plain, called_by, octets_place};
+ghost use Rattle.calls.specs.Calls.{parties, algorithms, lifetime, admit, install, revoke, protect, receive, plain, called_by, verb, octets_place};
 
-use words::cut::{is, word_at};
 use words::fault::{Expected, Fault};
-use words::fields::{end_at, flag_at, key_at, number_at, u8_at, u16_at, u32_at};
+use words::line::Line;
 use words::numbers::WrittenKey;
 
 /// Who sends under an association, to whom, and by which SPI.
@@ -73,167 +72,162 @@ pub enum Call {
 }
 
 impl Call {
+    /// How a call is written.
+    pub fn verb(self) -> &'static str
+        ensures { result.now ≡ verb self }
+    {
+        match self {
+            Call::Admit { .. } => "admit",
+            Call::Install { .. } => "install",
+            Call::Revoke { .. } => "revoke",
+            Call::Protect { .. } => "protect",
+            Call::Receive { .. } => "receive",
+            Call::Plain { .. } => "plain",
+        }
+    }
+
     /// The place of the word that stands for the octets of a call.
     pub fn octets_place(self) -> Option<usize>
         ensures { result ≡ octets_place self }
     {
         match self {
-            Call::Admit { .. } => None,
-            Call::Install { .. } => None,
-            Call::Revoke { .. } => None,
-            Call::Protect { .. } => Some(6),
+            Call::Admit { .. } | Call::Install { .. } | Call::Revoke { .. } => None,
+            Call::Protect { .. } | Call::Plain { .. } => Some(6),
             Call::Receive { .. } => Some(5),
-            Call::Plain { .. } => Some(6),
         }
     }
 }
 
 /// `NAME admit NETWORK STANCE`.
-fn admit(line: &[u8]) -> Result<Call, Fault>
-    ensures { result ≡ admit line.now }
+fn admit(line: Line<'_>) -> Result<Call, Fault>
+    ensures { result ≡ admit line.entry.octets.now }
 {
-    let network = u32_at(line, 2)?;
-    let stance = u8_at(line, 3)?;
-    end_at(line, 4)?;
-    Ok(Call::Admit { network, stance })
+    let call = Call::Admit {
+        network: line.number(2)?,
+        stance: line.number(3)?,
+    };
+    line.end(4)?;
+    Ok(call)
 }
 
 /// SENDER DESTINATION SPI of `install`.
-fn parties_in(line: &[u8]) -> Result<Parties, Fault>
-    ensures { result ≡ parties line.now }
+fn parties_in(line: Line<'_>) -> Result<Parties, Fault>
+    ensures { result ≡ parties line.entry.octets.now }
 {
-    let sender = u32_at(line, 3)?;
-    let destination = u32_at(line, 4)?;
-    let spi = u32_at(line, 5)?;
     Ok(Parties {
-        sender,
-        destination,
-        spi,
+        sender: line.number(3)?,
+        destination: line.number(4)?,
+        spi: line.number(5)?,
     })
 }
 
 /// MEA MEK MIA MIK of `install`.
-fn algorithms_in(line: &[u8]) -> Result<Algorithms, Fault>
-    ensures { result ≡ algorithms line.now }
+fn algorithms_in(line: Line<'_>) -> Result<Algorithms, Fault>
+    ensures { result ≡ algorithms line.entry.octets.now }
 {
-    let mea = u8_at(line, 6)?;
-    let mek = key_at(line, 7)?;
-    let mia = u8_at(line, 8)?;
-    let mik = key_at(line, 9)?;
-    Ok(Algorithms { mea, mek, mia, mik })
+    Ok(Algorithms {
+        mea: line.number(6)?,
+        mek: line.key(7)?,
+        mia: line.number(8)?,
+        mik: line.key(9)?,
+    })
 }
 
 /// PPI SOFT HARD of `install`.
-fn lifetime_in(line: &[u8]) -> Result<Lifetime, Fault>
-    ensures { result ≡ lifetime line.now }
+fn lifetime_in(line: Line<'_>) -> Result<Lifetime, Fault>
+    ensures { result ≡ lifetime line.entry.octets.now }
 {
-    let ppi = u16_at(line, 10)?;
-    let soft = number_at(line, 11, u64::MAX)?;
-    let hard = number_at(line, 12, u64::MAX)?;
-    Ok(Lifetime { ppi, soft, hard })
+    Ok(Lifetime {
+        ppi: line.number(10)?,
+        soft: line.number(11)?,
+        hard: line.number(12)?,
+    })
 }
 
 /// `NAME install READING SENDER DESTINATION SPI MEA MEK MIA MIK PPI SOFT HARD`.
-fn install(line: &[u8]) -> Result<Call, Fault>
-    ensures { result ≡ install line.now }
+fn install(line: Line<'_>) -> Result<Call, Fault>
+    ensures { result ≡ install line.entry.octets.now }
 {
-    let reading = number_at(line, 2, u64::MAX)?;
-    let parties = parties_in(line)?;
-    let algorithms = algorithms_in(line)?;
-    let lifetime = lifetime_in(line)?;
-    end_at(line, 13)?;
-    Ok(Call::Install {
-        reading,
-        parties,
-        algorithms,
-        lifetime,
-    })
+    let call = Call::Install {
+        reading: line.number(2)?,
+        parties: parties_in(line)?,
+        algorithms: algorithms_in(line)?,
+        lifetime: lifetime_in(line)?,
+    };
+    line.end(13)?;
+    Ok(call)
 }
 
 /// `NAME revoke DESTINATION SPI`.
-fn revoke(line: &[u8]) -> Result<Call, Fault>
-    ensures { result ≡ revoke line.now }
+fn revoke(line: Line<'_>) -> Result<Call, Fault>
+    ensures { result ≡ revoke line.entry.octets.now }
 {
-    let destination = u32_at(line, 2)?;
-    let spi = u32_at(line, 3)?;
-    end_at(line, 4)?;
-    Ok(Call::Revoke { destination, spi })
+    let call = Call::Revoke {
+        destination: line.number(2)?,
+        spi: line.number(3)?,
+    };
+    line.end(4)?;
+    Ok(call)
 }
 
 /// `NAME protect READING NETWORK KIND CODE OCTETS ROOM`; what the octets are is not looked at.
-fn protect(line: &[u8]) -> Result<Call, Fault>
-    ensures { result ≡ protect line.now }
+fn protect(line: Line<'_>) -> Result<Call, Fault>
+    ensures { result ≡ protect line.entry.octets.now }
 {
-    let reading = number_at(line, 2, u64::MAX)?;
-    let network = u32_at(line, 3)?;
-    let kind = u8_at(line, 4)?;
-    let code = u8_at(line, 5)?;
-    let room = number_at(line, 7, 65536)?;
-    end_at(line, 8)?;
-    Ok(Call::Protect {
-        reading,
-        network,
-        kind,
-        code,
-        room,
-    })
+    let call = Call::Protect {
+        reading: line.number(2)?,
+        network: line.number(3)?,
+        kind: line.number(4)?,
+        code: line.number(5)?,
+        room: line.number_up_to(7, 65536)?,
+    };
+    line.end(8)?;
+    Ok(call)
 }
 
 /// `NAME receive READING NETWORK WAITING OCTETS ROOM`; what the octets are is not looked at.
-fn receive(line: &[u8]) -> Result<Call, Fault>
-    ensures { result ≡ receive line.now }
+fn receive(line: Line<'_>) -> Result<Call, Fault>
+    ensures { result ≡ receive line.entry.octets.now }
 {
-    let reading = number_at(line, 2, u64::MAX)?;
-    let network = u32_at(line, 3)?;
-    let waiting = flag_at(line, 4)?;
-    let room = number_at(line, 6, 65536)?;
-    end_at(line, 7)?;
-    Ok(Call::Receive {
-        reading,
-        network,
-        waiting,
-        room,
-    })
+    let call = Call::Receive {
+        reading: line.number(2)?,
+        network: line.number(3)?,
+        waiting: line.flag(4)?,
+        room: line.number_up_to(6, 65536)?,
+    };
+    line.end(7)?;
+    Ok(call)
 }
 
 /// `NAME plain READING KIND CODE WAITING OCTETS`; what the octets are is not looked at.
-fn plain(line: &[u8]) -> Result<Call, Fault>
-    ensures { result ≡ plain line.now }
+fn plain(line: Line<'_>) -> Result<Call, Fault>
+    ensures { result ≡ plain line.entry.octets.now }
 {
-    let reading = number_at(line, 2, u64::MAX)?;
-    let kind = u8_at(line, 3)?;
-    let code = u8_at(line, 4)?;
-    let waiting = flag_at(line, 5)?;
-    end_at(line, 7)?;
-    Ok(Call::Plain {
-        reading,
-        kind,
-        code,
-        waiting,
-    })
+    let call = Call::Plain {
+        reading: line.number(2)?,
+        kind: line.number(3)?,
+        code: line.number(4)?,
+        waiting: line.flag(5)?,
+    };
+    line.end(7)?;
+    Ok(call)
 }
 
+#[tactic(auto, unfolding(crate::specs::Calls::called_by))]
 /// The call that the second word of a line begins.
-pub fn read_call(line: &[u8]) -> Result<Call, Fault>
-    ensures { result ≡ called_by line.now }
+pub fn read_call(line: Line<'_>) -> Result<Call, Fault>
+    ensures { result ≡ called_by line.entry.octets.now }
 {
-    let verb = word_at(line, 1);
-    if is(verb, b"admit") {
-        admit(line)
-    } else if is(verb, b"install") {
-        install(line)
-    } else if is(verb, b"revoke") {
-        revoke(line)
-    } else if is(verb, b"protect") {
-        protect(line)
-    } else if is(verb, b"receive") {
-        receive(line)
-    } else if is(verb, b"plain") {
-        plain(line)
-    } else {
-        Err(Fault {
+    match line.word(1) {
+        b"admit" => admit(line),
+        b"install" => install(line),
+        b"revoke" => revoke(line),
+        b"protect" => protect(line),
+        b"receive" => receive(line),
+        b"plain" => plain(line),
+        _ => Err(Fault {
             place: 1,
             expected: Expected::Call,
-        })
+        }),
     }
 }

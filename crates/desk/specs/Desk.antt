@@ -1,5 +1,5 @@
 -- What a declaration does to the plan of its station.
-use Rattle.std.specs.Prelude.{◌≡◌, ℕ, Bool, List, [], ◌∷◌, ◌++◌, Some, None, Ok, Err, vec_items, Option, Result}
+use Rattle.std.specs.Prelude.{◌≡◌, ℕ, Bool, List, [], ◌∷◌, ◌++◌, Some, None, Ok, Err, vec_items, Option, Result, IsOk}
 use Rattle.std.specs.Option.{option_map}
 use Rattle.rules.specs.declared.component.ComponentId.{ComponentId}
 use Rattle.desk.specs.declared.Declared.{Declared}
@@ -27,14 +27,14 @@ pub record Plan : Type 0 where
 abbrev pub plan : Declared → Plan
 plan d =
     record {
-      own = d.own;
-      ne = d.ne_id;
-      back = d.back;
-      ahead = d.ahead;
-      fallback = d.fallback;
+      own = d.draft.own;
+      ne = d.draft.ne_id;
+      back = d.draft.back;
+      ahead = d.draft.ahead;
+      fallback = d.draft.fallback;
       places = d.places;
-      listed = vec_items d.listed;
-      profile = vec_items d.profile;
+      listed = vec_items d.draft.listed;
+      profile = vec_items d.draft.profile;
     }
 
 -- the plan of a station that is declared
@@ -53,19 +53,20 @@ entered (Profile name ppi code level) None = Err (NotDeclared name)
 entered (Profile name ppi code level) (Some p) =
     Ok (record { own = p.own; ne = p.ne; back = p.back; ahead = p.ahead; fallback = p.fallback; places = p.places; listed = p.listed; profile = p.profile ++ record { ppi = ppi; code = code; level = level } ∷ [] })
 
--- a declaration changes one plan as it says, or is refused and changes nothing; memory may be short
+-- a declaration changes one plan as it says, or is refused and changes nothing; memory may be short for one that would
+-- have been entered
 abbrev pub Enters : Declaration → Option Plan → Option Plan → Result (Unit {0}) DeskFault → Type 0
 Enters s before after (Ok done) = (p : Plan) × (entered s before ≡ Ok p) × (after ≡ Some p)
-Enters s before after (Err NoMemory) = after ≡ before
+Enters s before after (Err NoMemory) = IsOk (entered s before) × (after ≡ before)
 Enters s before after (Err (DeclaredTwice name)) = (entered s before ≡ Err (DeclaredTwice name)) × (after ≡ before)
 Enters s before after (Err (NotDeclared name)) = (entered s before ≡ Err (NotDeclared name)) × (after ≡ before)
 
 -- and leaves the other station's alone
 abbrev pub EntersDesk : Name → Declaration → Desk → Desk → Result (Unit {0}) DeskFault → Type 0
-EntersDesk names.A s d e r = Enters s (planned d.a) (planned e.a) r × (e.b ≡ d.b)
-EntersDesk names.B s d e r = Enters s (planned d.b) (planned e.b) r × (e.a ≡ d.a)
+EntersDesk names.A s d e r = Enters s (planned d.declared.a) (planned e.declared.a) r × (e.declared.b ≡ d.declared.b)
+EntersDesk names.B s d e r = Enters s (planned d.declared.b) (planned e.declared.b) r × (e.declared.a ≡ d.declared.a)
 
 -- what is declared of a station is taken away, and the other station's stays
 abbrev pub Taken : Name → Desk → Desk → Option Declared → Type 0
-Taken names.A d e r = (r ≡ d.a) × (e.a ≡ None) × (e.b ≡ d.b)
-Taken names.B d e r = (r ≡ d.b) × (e.b ≡ None) × (e.a ≡ d.a)
+Taken names.A d e r = (r ≡ d.declared.a) × (e.declared.a ≡ None) × (e.declared.b ≡ d.declared.b)
+Taken names.B d e r = (r ≡ d.declared.b) × (e.declared.b ≡ None) × (e.declared.a ≡ d.declared.a)

@@ -40,9 +40,8 @@ impl Answers {
     pub fn give(&mut self, octets: Vec<u8>)
         ensures { Given octets self.old.given.items self.new.given.items }
     {
-        let count = self.given.len();
-        if count > 0 {
-            self.given[count - 1] = Some(octets);
+        if let Some(last) = self.given.last_mut() {
+            *last = Some(octets);
         }
     }
 
@@ -50,16 +49,7 @@ impl Answers {
     pub fn octets(&self, number: u64) -> Option<&[u8]>
         ensures { option_map (λ s. s.now) result ≡ option_map vec_items (answered self.now.given.items number) }
     {
-        if number == 0 {
-            return None;
-        }
-        let place = (number - 1) as usize;
-        if place >= self.given.len() {
-            return None;
-        }
-        match &self.given[place] {
-            Some(octets) => Some(octets.as_slice()),
-            None => None,
-        }
+        let place = number.checked_sub(1)? as usize;
+        self.given.get(place)?.as_deref()
     }
 }

@@ -2,6 +2,7 @@
 #![tactic(auto)]
 
 ghost use Rattle.std.specs.Prelude.{◌≡◌, None};
+ghost use Rattle.desk.specs.declared.DeskFault.TheVariants.{NoMemory};
 ghost use Rattle.desk.specs.Desk.{planned, Enters, EntersDesk, Taken};
 ghost use Rattle.statements.specs.Declarations.{subject};
 
@@ -9,21 +10,17 @@ pub mod answers;
 
 use rules::component::ComponentId;
 use rules::profile::ProfileLine;
+use rules::settings::Draft;
+use statements::both::Both;
 use statements::declaration::{Declaration, Name, Places};
-use std::alloc::Global;
+use std::alloc::{AllocFailed, Global};
 use std::fmt;
 
 /// What is declared of a station.
 #[derive(Drop)]
 pub struct Declared {
-    pub own: u32,
-    pub ne_id: u64,
-    pub back: u64,
-    pub ahead: u64,
-    pub fallback: bool,
+    pub draft: Draft,
     pub places: Places,
-    pub listed: Vec<ComponentId>,
-    pub profile: Vec<ProfileLine>,
 }
 
 /// Why a declaration cannot be entered.
@@ -34,11 +31,12 @@ pub enum DeskFault {
     NoMemory,
 }
 
-/// The declarations of both stations.
-#[derive(Drop)]
-pub struct Desk {
-    pub a: Option<Declared>,
-    pub b: Option<Declared>,
+impl<T: Drop> From<AllocFailed<T>> for DeskFault {
+    ghost from_gives = { λ _ fault. fault ≡ NoMemory };
+
+    fn from(_failed: AllocFailed<T>) -> DeskFault {
+        DeskFault::NoMemory
+    }
 }
 
 /// Enters a declaration into what is declared of its station.
@@ -62,91 +60,73 @@ fn enter(
             if declared.is_some() {
                 return Err(DeskFault::DeclaredTwice(name));
             }
-            let listed = Vec::new(heap);
-            let profile = Vec::new(heap);
             *declared = Some(Declared {
-                own,
-                ne_id,
-                back,
-                ahead,
-                fallback,
+                draft: Draft {
+                    own,
+                    ne_id,
+                    back,
+                    ahead,
+                    fallback,
+                    listed: Vec::new(heap),
+                    profile: Vec::new(heap),
+                },
                 places,
-                listed,
-                profile,
             });
             Ok(())
         }
-        Declaration::Listed { name, kind, code } => list(
-            declared,
-            name,
-            ComponentId { kind, code },
-        ),
+        Declaration::Listed { name, kind, code } => match declared {
+            Some(station) => station
+                .draft
+                .listed
+                .push(ComponentId { kind, code })
+                .map_err(DeskFault::from),
+            None => Err(DeskFault::NotDeclared(name)),
+        },
         Declaration::Profile {
             name,
             ppi,
             code,
             level,
-        } => add_line(declared, name, ProfileLine { ppi, code, level }),
+        } => match declared {
+            Some(station) => station
+                .draft
+                .profile
+                .push(ProfileLine { ppi, code, level })
+                .map_err(DeskFault::from),
+            None => Err(DeskFault::NotDeclared(name)),
+        },
     }
 }
 
-/// Adds a listed component.
-fn list(
-    declared: &mut Option<Declared>,
-    name: Name,
-    component: ComponentId,
-) -> Result<(), DeskFault>
-    ensures { Enters (Declaration.Listed name component.kind component.code) (planned declared.old) (planned declared.new) result }
-{
-    match declared {
-        Some(station) => match station.listed.push(component) {
-            Ok(()) => Ok(()),
-            Err(_) => Err(DeskFault::NoMemory),
-        },
-        None => Err(DeskFault::NotDeclared(name)),
-    }
-}
-
-/// Adds a profile line.
-fn add_line(declared: &mut Option<Declared>, name: Name, line: ProfileLine) -> Result<(), DeskFault>
-    ensures { Enters (Declaration.Profile name line.ppi line.code line.level) (planned declared.old) (planned declared.new) result }
-{
-    match declared {
-        Some(station) => match station.profile.push(line) {
-            Ok(()) => Ok(()),
-            Err(_) => Err(DeskFault::NoMemory),
-        },
-        None => Err(DeskFault::NotDeclared(name)),
-    }
+/// The declarations of both stations.
+#[derive(Drop)]
+pub struct Desk {
+    pub declared: Both<Option<Declared>>,
 }
 
 impl Desk {
     /// Nothing is declared yet.
     pub fn new() -> Desk
-        ensures a { result.a ≡ None }
-        ensures b { result.b ≡ None }
+        ensures a { result.declared.a ≡ None }
+        ensures b { result.declared.b ≡ None }
     {
-        Desk { a: None, b: None }
+        Desk {
+            declared: Both { a: None, b: None },
+        }
     }
 
     /// Enters a declaration; one that is refused changes nothing.
     pub fn enter(&mut self, heap: Global, declaration: Declaration) -> Result<(), DeskFault>
         ensures { EntersDesk (subject declaration) declaration self.old self.new result }
     {
-        match declaration.name() {
-            Name::A => enter(heap, &mut self.a, declaration),
-            Name::B => enter(heap, &mut self.b, declaration),
-        }
+        enter(heap, self.declared.of_mut(declaration.name()), declaration)
     }
 
     /// Takes what is declared of a station away.
     pub fn take(&mut self, name: Name) -> Option<Declared>
         ensures { Taken name self.old self.new result }
     {
-        match name {
-            Name::A => self.a.take(),
-            Name::B => self.b.take(),
-        }
+        self.declared.of_mut(name).take()
     }
 }
 

@@ -1,91 +1,112 @@
 // The stations of a run. Each is made at its first call, with the places that it was declared with.
-use crate::answers::{Reply, done, handed, sent};
+use crate::answers::{Outcome, Reply};
+use keys::Key;
 use calls::{Algorithms, Call, Lifetime, Parties};
 use delivery::Gateway;
 use desk::Declared;
-use desk::answers::Answers;
-use keys::Key;
 use rules::component::ComponentId;
 use rules::refusal::Refusal;
-use rules::settings::{Draft, Settings};
-use statements::declaration::{Name, Places};
-use station::receive::Handed;
+use rules::settings::Settings;
+use statements::both::Both;
+use statements::declaration::Places;
 use station::records::{HeardMessage, Policy, SecurityAssociation};
 use station::registers::Registers;
-use station::slip::{Answer, close};
+use std::alloc::{AllocError, Global};
+use std::mem;
 use words::numbers::WrittenKey;
+
+/// The memory of one station: as many places as it may use.
+#[derive(Drop)]
+pub struct Memory {
+    policies: Vec<Option<Policy>>,
+    associations: Vec<Option<SecurityAssociation>>,
+    heard: Vec<Option<HeardMessage>>,
+}
 
 /// The places that one station may use.
 #[derive(Drop)]
 pub struct Room<'a> {
-    pub policies: &'a mut [Option<Policy>],
-    pub associations: &'a mut [Option<SecurityAssociation>],
-    pub heard: &'a mut [Option<HeardMessage>],
+    policies: &'a mut [Option<Policy>],
+    associations: &'a mut [Option<SecurityAssociation>],
+    heard: &'a mut [Option<HeardMessage>],
 }
 
-/// A station of the run: until it is made, its registers have no places and the room is not taken.
+// The registers stand beside the gateway: no value that holds a `&mut` may be dropped where it is
+// there in one case alone, as in an `Option`.
+/// A station of the run: until it is made, its registers have no places.
 #[derive(Drop)]
-pub struct Site<'s, 'a> {
-    pub room: &'s mut Option<Room<'a>>,
-    pub gateway: &'s mut Option<Gateway>,
-    pub registers: &'s mut Registers<'a>,
+pub struct Site<'a> {
+    room: Room<'a>,
+    registers: Registers<'a>,
+    gateway: Option<Gateway>,
 }
 
-/// Both stations, and what their answers gave.
-#[derive(Drop)]
-pub struct Sites<'s, 'a, 't, 'b> {
-    pub a: Site<'s, 'a>,
-    pub b: Site<'t, 'b>,
-    pub answers: Answers,
-}
+impl Memory {
+    /// Empty places for each station.
+    pub fn of_both(heap: Global) -> Result<Both<Memory>, AllocError> {
+        Ok(Both {
+            a: Memory::new(heap)?,
+            b: Memory::new(heap)?,
+        })
+    }
 
-/// Empty registers in the first places of a room, as many as are declared.
-fn furnish<'a>(room: Room<'a>, places: Places) -> Registers<'a> {
-    let Room {
-        policies,
-        associations,
-        heard,
-    } = room;
-    let policy_count = (places.policies as usize).min(policies.len());
-    let association_count = (places.associations as usize).min(associations.len());
-    let heard_count = (places.heard as usize).min(heard.len());
-    let (policies, _) = policies.split_at_mut(policy_count);
-    let (associations, _) = associations.split_at_mut(association_count);
-    let (heard, _) = heard.split_at_mut(heard_count);
-    Registers::new(policies, associations, heard)
-}
+    /// What each station may use.
+    pub fn rooms(memory: &mut Both<Memory>) -> Both<Room<'_>> {
+        Both {
+            a: memory.a.room(),
+            b: memory.b.room(),
+        }
+    }
 
-/// Gives a station its places, once.
-fn occupy<'a>(room: &mut Option<Room<'a>>, registers: &mut Registers<'a>, places: Places) {
-    if let Some(room) = room.take() {
-        let _ = std::mem::replace(registers, furnish(room, places));
+    /// Empty places.
+    fn new(heap: Global) -> Result<Memory, AllocError> {
+        Ok(Memory {
+            policies: vec![in heap; None; 64]?,
+            associations: vec![in heap; None; 256]?,
+            heard: vec![in heap; None; 4096]?,
+        })
+    }
+
+    /// All of them.
+    fn room(&mut self) -> Room<'_> {
+        Room {
+            policies: self.policies.as_mut_slice(),
+            associations: self.associations.as_mut_slice(),
+            heard: self.heard.as_mut_slice(),
+        }
     }
 }
 
-/// The settings that are declared.
-pub fn settle(declared: Declared) -> Result<Settings, Refusal> {
-    let Declared {
-        own,
-        ne_id,
-        back,
-        ahead,
-        fallback,
-        places: _,
-        listed,
-        profile,
-    } = declared;
-    Settings::new(Draft {
-        own,
-        ne_id,
-        back,
-        ahead,
-        fallback,
-        listed,
-        profile,
-    })
+/// The first places, as many as are declared.
+fn first<R>(places: &mut [Option<R>], count: u64) -> &mut [Option<R>] {
+    let count = places.len().min(count as usize);
+    &mut places[..count]
 }
 
-impl<'s, 'a> Site<'s, 'a> {
+impl<'a> Room<'a> {
+    /// Takes all places, and gives empty registers in the first ones, as many as are declared.
+    fn furnish(&mut self, places: Places) -> Registers<'a> {
+        let policies = mem::replace(&mut self.policies, &mut []);
+        let associations = mem::replace(&mut self.associations, &mut []);
+        let heard = mem::replace(&mut self.heard, &mut []);
+        Registers::new(
+            first(policies, places.policies),
+            first(associations, places.associations),
+            first(heard, places.heard),
+        )
+    }
+}
+
+impl<'a> Site<'a> {
+    /// A station with its room, which no call has made.
+    pub fn new(room: Room<'a>) -> Site<'a> {
+        Site {
+            room,
+            registers: Registers::new(&mut [], &mut [], &mut []),
+            gateway: None,
+        }
+    }
+
     /// Whether a call has made it.
     pub fn is_made(&self) -> bool {
         self.gateway.is_some()
@@ -93,51 +114,17 @@ impl<'s, 'a> Site<'s, 'a> {
 
     /// Makes the station as it is declared.
     pub fn make(&mut self, declared: Declared) -> Result<(), Refusal> {
-        let places = declared.places;
-        let settings = settle(declared)?;
-        occupy(self.room, self.registers, places);
-        *self.gateway = Some(Gateway::new(settings));
+        let Declared { draft, places } = declared;
+        let settings = Settings::new(draft)?;
+        let _ = mem::replace(&mut self.registers, self.room.furnish(places));
+        self.gateway = Some(Gateway::new(settings));
         Ok(())
     }
 
     /// Makes a call at the station; none, where it is not made.
     pub fn call(&mut self, call: Call, octets: &[u8], output: &mut [u8]) -> Option<Reply> {
-        let mut gateway = self.gateway.take()?;
-        let reply = perform(&mut gateway, self.registers, call, octets, output);
-        *self.gateway = Some(gateway);
-        Some(reply)
-    }
-}
-
-impl<'s, 'a, 't, 'b> Sites<'s, 'a, 't, 'b> {
-    /// Whether a call has made the station.
-    pub fn is_made(&self, name: Name) -> bool {
-        match name {
-            Name::A => self.a.is_made(),
-            Name::B => self.b.is_made(),
-        }
-    }
-
-    /// Makes a station as it is declared.
-    pub fn make(&mut self, name: Name, declared: Declared) -> Result<(), Refusal> {
-        match name {
-            Name::A => self.a.make(declared),
-            Name::B => self.b.make(declared),
-        }
-    }
-
-    /// Makes a call at a station; none, where it is not made.
-    pub fn call(
-        &mut self,
-        name: Name,
-        call: Call,
-        octets: &[u8],
-        output: &mut [u8],
-    ) -> Option<Reply> {
-        match name {
-            Name::A => self.a.call(call, octets, output),
-            Name::B => self.b.call(call, octets, output),
-        }
+        let gateway = self.gateway.as_mut()?;
+        Some(perform(gateway, &mut self.registers, call, octets, output))
     }
 }
 
@@ -167,12 +154,6 @@ fn association(
     }
 }
 
-/// The reply that an answer with a slip is, once its slip is closed.
-fn close_slip(answer: Answer<Handed>) -> Reply {
-    let Answer { outcome, slip } = answer;
-    handed(outcome, close(slip))
-}
-
 /// Makes a call with its octets and its output.
 fn perform(
     gateway: &mut Gateway,
@@ -182,7 +163,10 @@ fn perform(
     output: &mut [u8],
 ) -> Reply {
     match call {
-        Call::Admit { network, stance } => done(gateway.admit(registers, network, stance)),
+        Call::Admit { network, stance } => {
+            let done = gateway.admit(registers, network, stance);
+            Reply::from(done.map(|()| Outcome::Done))
+        }
         Call::Install {
             reading,
             parties,
@@ -190,9 +174,13 @@ fn perform(
             lifetime,
         } => {
             let association = association(parties, algorithms, lifetime);
-            done(gateway.install(registers, reading, association))
+            let done = gateway.install(registers, reading, association);
+            Reply::from(done.map(|()| Outcome::Done))
         }
-        Call::Revoke { destination, spi } => done(gateway.revoke(registers, destination, spi)),
+        Call::Revoke { destination, spi } => {
+            let done = gateway.revoke(registers, destination, spi);
+            Reply::from(done.map(|()| Outcome::Done))
+        }
         Call::Protect {
             reading,
             network,
@@ -201,22 +189,20 @@ fn perform(
             room: _,
         } => {
             let component = ComponentId { kind, code };
-            sent(gateway.protect(registers, reading, network, component, octets, output))
+            let sending = gateway.protect(registers, reading, network, component, octets, output);
+            Reply::from(sending.map(Outcome::Sending))
         }
         Call::Receive {
             reading,
             network,
             waiting,
             room: _,
-        } => close_slip(gateway.receive(registers, reading, network, waiting, octets, output)),
+        } => Reply::from(gateway.receive(registers, reading, network, waiting, octets, output)),
         Call::Plain {
             reading,
             kind,
             code,
             waiting,
-        } => {
-            let component = ComponentId { kind, code };
-            close_slip(gateway.plain(reading, component, waiting, octets))
-        }
+        } => Reply::from(gateway.plain(reading, ComponentId { kind, code }, waiting, octets)),
     }
 }

@@ -2,9 +2,10 @@
 #![tactic(auto)]
 
 ghost use Rattle.std.specs.Prelude.{◌≡◌, ℕ, ◌+◌, min, List, [], ◌∷◌, IfOk, if◌then◌else◌};
+ghost use Rattle.lines.specs.declared.LineFault.TheVariants.{NoMemory};
 ghost use Rattle.lines.specs.Lines.{trimmed, lines, Put, LastLine};
 
-use std::alloc::Global;
+use std::alloc::{AllocFailed, Global};
 use std::fmt;
 
 /// The most octets of a line, without its line end.
@@ -15,6 +16,14 @@ pub const LIMIT: usize = 8192;
 pub enum LineFault {
     TooLong,
     NoMemory,
+}
+
+impl From<AllocFailed<u8>> for LineFault {
+    ghost from_gives = { λ _ fault. fault ≡ NoMemory };
+
+    fn from(_failed: AllocFailed<u8>) -> LineFault {
+        LineFault::NoMemory
+    }
 }
 
 /// The line that is being gathered, with its number, counted from 1.
@@ -61,22 +70,17 @@ impl LineCutter {
         if self.held.len() > LIMIT {
             return Err(LineFault::TooLong);
         }
-        match self.held.push(octet) {
-            Ok(()) => Ok(false),
-            Err(_) => Err(LineFault::NoMemory),
-        }
+        self.held.push(octet)?;
+        Ok(false)
     }
 
     /// The octets of a complete line; a CR before its LF belongs to the line end.
     pub fn line(&self) -> &[u8]
         ensures { result.now ≡ trimmed self.now.held.items }
     {
-        let held = self.held.as_slice();
-        let count = held.len();
-        if count > 0 && held[count - 1] == b'\r' {
-            &held[0..count - 1]
-        } else {
-            held
+        match self.held.as_slice() {
+            [line @ .., b'\r'] => line,
+            line => line,
         }
     }
 
@@ -84,13 +88,10 @@ impl LineCutter {
     pub fn last_line(&self) -> Result<Option<&[u8]>, LineFault>
         ensures { LastLine self.now.held.items result }
     {
-        let held = self.held.as_slice();
-        if held.is_empty() {
-            Ok(None)
-        } else if held.len() <= LIMIT {
-            Ok(Some(held))
-        } else {
-            Err(LineFault::TooLong)
+        match self.held.as_slice() {
+            [] => Ok(None),
+            held if held.len() <= LIMIT => Ok(Some(held)),
+            _ => Err(LineFault::TooLong),
         }
     }
 

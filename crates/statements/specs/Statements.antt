@@ -73,6 +73,14 @@ profile line =
     next (end_at 5 line) λ _.
     Ok (Profile name ppi code level)
 
+-- the declaration that the first word begins; none, where it begins something else
+unfoldable pub declaration : List ℕ → Option (Result Declaration Fault)
+declaration line =
+    cond (bytes_eq (word_at 0 line) (codes "station")) (Some (station line))
+    (cond (bytes_eq (word_at 0 line) (codes "listed")) (Some (listed line))
+    (cond (bytes_eq (word_at 0 line) (codes "profile")) (Some (profile line))
+    None))
+
 -- a call at the station that the first word names
 unfoldable pub called : List ℕ → Result Statement Fault
 called line =

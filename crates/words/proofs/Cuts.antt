@@ -1,47 +1,49 @@
--- The steps of the loops that cut a line into words. Assumes nothing.
-use Rattle.std.proofs.Common.{◌≡◌, ℕ, ◌+◌, ◌<◌, ◌≤◌, true, false, List, [], ◌∷◌, ◌++◌, length, get_or, take, drop, sym, ap, ◌∙◌, append_assoc, append-nil, add-one, arith}
-use Rattle.std.proofs.lemmas.List.{take_more, drop_more, drop_all}
-use Rattle.std.proofs.lemmas.Bool.{cond-true, cond-false}
-use Rattle.words.specs.Words.{blank, unblanked, run, past, after, from}
-
--- a blank at the front of what is left is passed
-pub blank_more : (line : List ℕ) (n : ℕ) → n < length line → blank (get_or line n 0) ≡ true → unblanked line ≡ unblanked (drop n line) → unblanked line ≡ unblanked (drop (n + 1) line)
-blank_more line n some is h = h ∙ ap unblanked (drop_more line n 0 some) ∙ cond-true (blank (get_or line n 0)) (unblanked (drop (n + 1) line)) (get_or line n 0 ∷ drop (n + 1) line) is
-
--- another octet there stays
-pub blanks_end : (line : List ℕ) (n : ℕ) → n < length line → blank (get_or line n 0) ≡ false → unblanked line ≡ unblanked (drop n line) → unblanked line ≡ drop n line
-blanks_end line n some is h = h ∙ ap unblanked (drop_more line n 0 some) ∙ cond-false (blank (get_or line n 0)) (unblanked (drop (n + 1) line)) (get_or line n 0 ∷ drop (n + 1) line) is ∙ sym (drop_more line n 0 some)
-
--- the first n octets of a line belong to its first run
-pub record Ran (line : List ℕ) (n : ℕ) : Type 0 where
-  pub within : n ≤ length line
-  pub front : run line ≡ take n line ++ run (drop n line)
-  pub back : past line ≡ past (drop n line)
-
-pub ran_more : (line : List ℕ) (n : ℕ) → n < length line → blank (get_or line n 0) ≡ false → Ran line n → Ran line (n + 1)
-ran_more line n some is h =
-    let next = drop_more line n 0 some in
-    let more = take_more line n 0 some in
-    record {
-      within = omega arith;
-      front = h.front ∙ ap (λ l. take n line ++ l) (ap run next ∙ cond-false (blank (get_or line n 0)) [] (get_or line n 0 ∷ run (drop (n + 1) line)) is) ∙ sym (append_assoc (take n line) (get_or line n 0 ∷ []) (run (drop (n + 1) line))) ∙ ap (λ l. l ++ run (drop (n + 1) line)) (sym more);
-      back = h.back ∙ ap past next ∙ cond-false (blank (get_or line n 0)) (get_or line n 0 ∷ drop (n + 1) line) (past (drop (n + 1) line)) is;
-    }
-
--- a run ends where a blank stands
-pub ran_to_blank : (line : List ℕ) (n : ℕ) → n < length line → blank (get_or line n 0) ≡ true → Ran line n → (take n line ≡ run line) × (drop n line ≡ past line)
-ran_to_blank line n some is h =
-    let next = drop_more line n 0 some in
-    let none = ap run next ∙ cond-true (blank (get_or line n 0)) [] (get_or line n 0 ∷ run (drop (n + 1) line)) is in
-    let rest = ap past next ∙ cond-true (blank (get_or line n 0)) (get_or line n 0 ∷ drop (n + 1) line) (past (drop (n + 1) line)) is in
-    (sym (h.front ∙ ap (λ l. take n line ++ l) none ∙ append-nil (take n line)), next ∙ sym (h.back ∙ rest))
-
--- and at the end of the line
-pub ran_to_end : (line : List ℕ) (n : ℕ) → length line ≤ n → Ran line n → (take n line ≡ run line) × (drop n line ≡ past line)
-ran_to_end line n all h =
-    let none = drop_all n line all in
-    (sym (h.front ∙ ap (λ l. take n line ++ run l) none ∙ append-nil (take n line)), none ∙ sym (h.back ∙ ap past none))
+-- Cutting a line into words. Assumes nothing.
+use Rattle.std.proofs.Common.{◌≡◌, ℕ, zero, suc, ◌+◌, ◌-◌, ◌<◌, ◌≤◌, Bool, List, [], ◌∷◌, length, true, false, Ok, ap, sym, refl, subst, add-one, arith}
+use Rattle.std.proofs.lemmas.Grind.{common_steps}
+use Rattle.std.proofs.lemmas.Slice.Eq.{bytes_eq-Decides}
+use Rattle.words.specs.Reading.{required, only, keyword_at, spelled}
+use Rattle.words.specs.Words.{unblanked, uncommented, past, run, word, after, from, word_at}
+use Rattle.words.specs.declared.fault.Expected.{Expected}
+use Rattle.words.specs.declared.fault.Keyword.{Keyword}
+use Rattle.words.specs.declared.fault.Keyword.TheVariants.{Own, Ne, Back, Ahead, Fallback}
 
 -- one word more
 pub from_more : (n : ℕ) (line : List ℕ) → from (n + 1) line ≡ after (from n line)
 from_more n line = ap (λ k. from k line) (add-one n)
+
+-- a word takes an octet at least, where any is left
+shorter : (line : List ℕ) → length (past (uncommented (unblanked line))) ≤ length line - 1
+shorter [] = omega arith
+shorter (b ∷ bs) = let more = shorter bs in grind (arith, common_steps)
+
+from_short : (n : ℕ) (line : List ℕ) → length (from n line) ≤ length line - n
+unfolding after
+from_short zero line = omega arith
+from_short (suc n) line = let a = from_short n line in let b = shorter (from n line) in omega (arith, a, b)
+
+word_short : (line : List ℕ) → length (run (uncommented (unblanked line))) ≤ length line
+word_short line = grind (arith, common_steps)
+
+some_spelled : (k : Keyword) → 0 < length (spelled k)
+some_spelled Own = omega arith
+some_spelled Ne = omega arith
+some_spelled Back = omega arith
+some_spelled Ahead = omega arith
+some_spelled Fallback = omega arith
+
+-- a word stands only at a place within the line
+word_within : (n : ℕ) (line : List ℕ) → 0 < length (word_at n line) → n < length line
+unfolding word word_at
+word_within n line some = let a = from_short n line in let b = word_short (from n line) in omega (arith, a, b)
+
+found : (b : Bool) (n : ℕ) (e : Expected) → Ok tt ≡ required (only b) n e → b ≡ true
+found true n e is = refl
+found false n e is = cc
+
+-- and so does a keyword
+pub keyword_within : (k : Keyword) (n : ℕ) (line : List ℕ) → Ok tt ≡ keyword_at k n line → n < length line
+unfolding keyword_at
+keyword_within k n line is =
+    let same = (bytes_eq-Decides (word_at n line) (spelled k)).0 (found _ _ _ is) in
+    word_within n line (subst (λ w. 0 < length w) (sym same) (some_spelled k))

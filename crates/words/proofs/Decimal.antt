@@ -2,7 +2,7 @@
 use Rattle.std.proofs.Common.{◌≡◌, ℕ, ◌+◌, ◌*◌, ◌^◌, ◌<◌, ◌≤◌, true, false, ◌&&◌, eqb, ltb, leb, List, [], ◌∷◌, length, Some, None, decimal, sym, refl, ap, ◌∙◌, subst, add-zero, mul-one, arith}
 use native.Mathlib.Nat.{pow-zero}
 use Rattle.std.proofs.lemmas.Fmt.{decimal_is_IsNumeral}
-use Rattle.std.proofs.lemmas.Bool.{cond-true, cond-false, and_from, and_right, lt-ltb, le-leb, ne_eqb}
+use Rattle.std.proofs.lemmas.Bool.{cond-true, cond-false, and_from, and_left, and_right, lt-ltb, le-leb, ne_eqb}
 use Rattle.std.specs.Str.Parse.{AllDigits, digits_value_after}
 use Rattle.std.specs.Char.{digit_value}
 use Rattle.words.specs.Numbers.{digits, value, numeral, number, hexadecimal}
@@ -19,10 +19,10 @@ sound base (c ∷ cs) h = and_from _ _ (lt-ltb _ _ h.0) (sound base cs h.1)
 
 -- decimal digits have no x
 plain : (cs : List ℕ) → AllDigits 10 cs → hexadecimal cs ≡ false
-plain [] h = and_right (eqb 0 48) false refl
+plain [] h = refl
 plain (a ∷ []) h = and_right (eqb a 48) false refl
 plain (a ∷ b ∷ cs) h =
-    and_right (eqb a 48) (eqb b 120) (ne_eqb b 120 (λ e. let z : 33 < 10 = subst (λ x. digit_value x < 10) e h.1.0 in omega arith))
+    and_right (eqb a 48) (eqb b 120 && true) (and_left (eqb b 120) true (ne_eqb b 120 (λ e. let z : 33 < 10 = subst (λ x. digit_value x < 10) e h.1.0 in omega arith)))
 
 pub reads_back : (limit n : ℕ) (w : List ℕ) → limit < 2 ^ 64 → n ≤ limit → w ≡ decimal n → number limit w ≡ Some n
 unfolding number numeral

@@ -1,5 +1,5 @@
 -- Numbers and octets as they are written: decimal or 0x.., and pairs of hexadecimal digits.
-use Rattle.std.specs.Prelude.{ℕ, ◌+◌, ◌*◌, ◌%◌, ◌^◌, Bool, true, cond, ◌&&◌, List, [], ◌∷◌, length, take, drop, Some, None, codes, Option, ◌==◌, nat_le, nat_lt, slice_index}
+use Rattle.std.specs.Prelude.{ℕ, ◌+◌, ◌*◌, ◌%◌, ◌^◌, Bool, true, cond, ◌&&◌, List, [], ◌∷◌, length, take, drop, Some, None, codes, Option, ◌==◌, nat_le, nat_lt}
 use Rattle.std.specs.Char.{digit_value}
 use Rattle.std.specs.Str.{bytes_eq}
 use Rattle.words.specs.declared.numbers.WrittenKey.{WrittenKey}
@@ -21,7 +21,7 @@ numeral base limit cs =
 
 -- 0x leads hexadecimal digits
 abbrev pub hexadecimal : List ℕ → Bool
-hexadecimal w = slice_index w 0 == 48 && slice_index w 1 == 120
+hexadecimal w = bytes_eq (take 2 w) (codes "0x")
 
 -- the number of at most `limit` that a word stands for
 unfoldable pub number : ℕ → List ℕ → Option ℕ
@@ -51,4 +51,4 @@ octets w =
 
 -- the number N of a word `@N`
 unfoldable pub answer_number : List ℕ → Option ℕ
-answer_number w = cond (slice_index w 0 == 64) (number 18446744073709551615 (drop 1 w)) None
+answer_number w = cond (bytes_eq (take 1 w) (codes "@")) (number 18446744073709551615 (drop 1 w)) None

@@ -1,5 +1,5 @@
 -- What the word at a place of a line stands for, and the fault where it is not what was expected.
-use Rattle.std.specs.Prelude.{ℕ, ◌+◌, Bool, true, false, cond, List, length, Some, None, Ok, Err, codes, Option, Result, ◌==◌}
+use Rattle.std.specs.Prelude.{◌≡◌, ℕ, ◌+◌, Bool, true, false, cond, List, length, Some, None, Ok, Err, codes, Option, Result, ◌==◌}
 use Rattle.std.specs.Str.{bytes_eq}
 use Rattle.words.specs.Numbers.{number, key}
 use Rattle.words.specs.Words.{word_at}
@@ -14,6 +14,11 @@ use Rattle.words.specs.declared.numbers.WrittenKey.{WrittenKey}
 abbrev pub required : {X : Type 0} → Option X → ℕ → Expected → Result X Fault
 required (Some x) n e = Ok x
 required None n e = Err (record { place = n; expected = e })
+
+-- an answer of the code tells what is read, of which each value means a number
+abbrev pub Tells : {X : Type 0} → (X → ℕ) → Result X Fault → Result ℕ Fault → Type 0
+Tells value (Ok x) r = r ≡ Ok (value x)
+Tells value (Err e) r = r ≡ Err e
 
 -- the first fault, or else what the second reader answers
 abbrev pub next : {X Y : Type 0} → Result X Fault → (X → Result Y Fault) → Result Y Fault

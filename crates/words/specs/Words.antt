@@ -1,30 +1,28 @@
 -- The words of a line. Blanks part them; a '#' where a word could begin opens a comment that
 -- ends the line, and inside a word it is an octet like any other.
-use Rattle.std.specs.Prelude.{ℕ, zero, suc, Bool, cond, ◌||◌, List, [], ◌∷◌, ◌==◌}
+use Rattle.std.specs.Prelude.{ℕ, zero, suc, Bool, cond, not, ◌||◌, List, [], ◌∷◌, drop, ◌==◌}
+use Rattle.std.specs.List.{position_or_len, before_first}
 
 -- a blank: a space or a tab
 abbrev pub blank : ℕ → Bool
 blank b = b == 32 || b == 9
 
--- a line without the blanks that it begins with
+-- a line from its first octet that is no blank
 abbrev pub unblanked : List ℕ → List ℕ
-unblanked [] = []
-unblanked (b ∷ bs) = cond (blank b) (unblanked bs) (b ∷ bs)
+unblanked line = drop (position_or_len (λ b. not (blank b)) line) line
 
 -- nothing, where a comment begins
 abbrev pub uncommented : List ℕ → List ℕ
 uncommented [] = []
 uncommented (b ∷ bs) = cond (b == 35) [] (b ∷ bs)
 
--- the octets up to the next blank
+-- the octets before the first blank
 abbrev pub run : List ℕ → List ℕ
-run [] = []
-run (b ∷ bs) = cond (blank b) [] (b ∷ run bs)
+run line = before_first blank line
 
--- what stands from the next blank on
+-- what stands from the first blank on
 abbrev pub past : List ℕ → List ℕ
-past [] = []
-past (b ∷ bs) = cond (blank b) (b ∷ bs) (past bs)
+past line = drop (position_or_len blank line) line
 
 -- the next word of a line; none is empty, so nothing stands for the end of the line
 unfoldable pub word : List ℕ → List ℕ

@@ -2,6 +2,8 @@
 ghost use Rattle.std.specs.Prelude.{◌≡◌};
 ghost use Rattle.words.specs.Reading.{spelled};
 
+use std::fmt;
+
 /// The words that name a field of a statement.
 #[derive(Clone, Copy)]
 pub enum Keyword {
@@ -56,4 +58,29 @@ pub enum Expected {
 pub struct Fault {
     pub place: usize,
     pub expected: Expected,
+}
+
+impl fmt::Display for Keyword {
+    fn fmt<W: fmt::Write>(&self, f: &mut fmt::Formatter<W>) -> fmt::Result {
+        write!(f, "{}", self.text())
+    }
+}
+
+impl fmt::Display for Expected {
+    fn fmt<W: fmt::Write>(&self, f: &mut fmt::Formatter<W>) -> fmt::Result {
+        match *self {
+            Expected::Text => write!(f, "text in UTF-8"),
+            Expected::Statement => write!(f, "station, listed, profile, A or B"),
+            Expected::StationName => write!(f, "A or B"),
+            Expected::Keyword(keyword) => write!(f, "'{keyword}'"),
+            Expected::Number { limit } => write!(f, "a number up to {limit}, decimal or 0x.."),
+            Expected::Call => write!(f, "admit, install, revoke, protect, receive or plain"),
+            Expected::Key => write!(f, "a key of 32 hexadecimal digits"),
+            Expected::Octets => write!(f, "octets: pairs of hexadecimal digits, - or @N"),
+            Expected::Answer => write!(f, "the number of an answer above that gave octets"),
+            Expected::YesOrNo => write!(f, "yes or no"),
+            Expected::PlacesOrEnd => write!(f, "'places' or nothing more"),
+            Expected::End => write!(f, "nothing more"),
+        }
+    }
 }

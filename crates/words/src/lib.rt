@@ -3,5 +3,5 @@
 
 pub mod cut;
 pub mod fault;
-pub mod fields;
+pub mod line;
 pub mod numbers;

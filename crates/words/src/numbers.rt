@@ -2,10 +2,71 @@
 ghost use Rattle.std.specs.Prelude.{◌≡◌, ℕ, ◌<◌, ◌≤◌, IfOk, Some, vec_items, decimal};
 ghost use Rattle.std.specs.Option.{SomeIff, option_map};
 ghost use Rattle.std.specs.Char.{digit_value};
-ghost use Rattle.words.specs.Numbers.{numeral, number, joined, key, octets, answer_number};
+ghost use Rattle.words.specs.Numbers.{numeral, number, key, octets, answer_number};
 
-use crate::cut::is;
 use std::alloc::{AllocError, Global};
+
+/// An unsigned number of some width: each number up to its limit is one.
+pub trait Unsigned: Copy {
+    const LIMIT: u64;
+
+    ghost LIMIT: { ℕ };
+
+    ghost value: { Self → ℕ };
+
+    /// That number, in this width.
+    fn narrow(number: u64) -> Self
+        requires { number ≤ LIMIT }
+        ensures { value result ≡ number };
+}
+
+impl Unsigned for u8 {
+    const LIMIT: u64 = u8::MAX as u64;
+
+    ghost LIMIT = { 255 };
+
+    ghost value = { λ n. n };
+
+    fn narrow(number: u64) -> u8 {
+        number as u8
+    }
+}
+
+impl Unsigned for u16 {
+    const LIMIT: u64 = u16::MAX as u64;
+
+    ghost LIMIT = { 65535 };
+
+    ghost value = { λ n. n };
+
+    fn narrow(number: u64) -> u16 {
+        number as u16
+    }
+}
+
+impl Unsigned for u32 {
+    const LIMIT: u64 = u32::MAX as u64;
+
+    ghost LIMIT = { 4294967295 };
+
+    ghost value = { λ n. n };
+
+    fn narrow(number: u64) -> u32 {
+        number as u32
+    }
+}
+
+impl Unsigned for u64 {
+    const LIMIT: u64 = u64::MAX;
+
+    ghost LIMIT = { 18446744073709551615 };
+
+    ghost value = { λ n. n };
+
+    fn narrow(number: u64) -> u64 {
+        number
+    }
+}
 
 /// The number of at most `limit` that the digits stand for in a base: one digit or more, and
 /// nothing else.
@@ -28,16 +89,16 @@ fn numeral(digits: &[u8], base: u32, limit: u64) -> Option<u64>
     Some(value)
 }
 
+#[tactic(auto, unfolding(crate::specs::Numbers::number))]
 /// The number of at most `limit` that a word stands for, decimal or `0x..`. A number as `{n}`
 /// writes it is read back.
 pub fn number(word: &[u8], limit: u64) -> Option<u64>
     ensures value { result ≡ number limit word.now }
     ensures reads_back { (n : ℕ) → n ≤ limit → word.now ≡ decimal n → result ≡ Some n }
 {
-    if word.len() >= 2 && word[0] == b'0' && word[1] == b'x' {
-        numeral(&word[2..], 16, limit)
-    } else {
-        numeral(word, 10, limit)
+    match word.strip_prefix(b"0x") {
+        Some(digits) => numeral(digits, 16, limit),
+        None => numeral(word, 10, limit),
     }
 }
 
@@ -48,16 +109,7 @@ pub struct WrittenKey {
     pub low: u64,
 }
 
-/// The key of two halves, where there are both.
-fn joined(high: Option<u64>, low: Option<u64>) -> Option<WrittenKey>
-    ensures { result ≡ joined high low }
-{
-    match (high, low) {
-        (Some(high), Some(low)) => Some(WrittenKey { high, low }),
-        _ => None,
-    }
-}
-
+#[tactic(auto, unfolding(crate::specs::Numbers::key))]
 /// The key that a word of 32 hexadecimal digits stands for.
 pub fn key(word: &[u8]) -> Option<WrittenKey>
     ensures { result ≡ key word.now }
@@ -65,53 +117,48 @@ pub fn key(word: &[u8]) -> Option<WrittenKey>
     if word.len() != 32 {
         return None;
     }
-    let high = numeral(&word[0..16], 16, u64::MAX);
-    let low = numeral(&word[16..], 16, u64::MAX);
-    joined(high, low)
+    let (high, low) = word.split_at(16);
+    Some(WrittenKey {
+        high: numeral(high, 16, u64::MAX)?,
+        low: numeral(low, 16, u64::MAX)?,
+    })
 }
 
 /// What a hexadecimal digit stands for.
 fn hex_digit(octet: u8) -> Option<u8>
     ensures { SomeIff result (digit_value octet < 16) (digit_value octet) }
 {
-    match (octet as char).to_digit(16) {
-        Some(digit) => Some(digit as u8),
-        None => None,
-    }
+    let digit = (octet as char).to_digit(16)?;
+    Some(digit as u8)
 }
 
+#[tactic(auto, unfolding(crate::specs::Numbers::octets))]
 /// The octets that a word stands for: `-` for none, else pairs of hexadecimal digits.
 pub fn octets(heap: Global, word: &[u8]) -> Result<Option<Vec<u8>>, AllocError>
     ensures { IfOk result (λ o. option_map vec_items o ≡ octets word.now) }
 {
     let mut read = Vec::new(heap);
-    if is(word, b"-") {
+    if word == b"-".as_slice() {
         return Ok(Some(read));
     }
     if word.is_empty() || word.len() % 2 != 0 {
         return Ok(None);
     }
-    let mut i = 0;
-    while i < word.len() {
-        let Some(high) = hex_digit(word[i]) else {
-            return Ok(None);
-        };
-        let Some(low) = hex_digit(word[i + 1]) else {
+    let mut left = word;
+    while let [high, low, rest @ ..] = left {
+        let (Some(high), Some(low)) = (hex_digit(*high), hex_digit(*low)) else {
             return Ok(None);
         };
         read.push(high * 16 + low)?;
-        i += 2;
+        left = rest;
     }
     Ok(Some(read))
 }
 
+#[tactic(auto, unfolding(crate::specs::Numbers::answer_number))]
 /// The number N of a word `@N`, which stands for the octets of answer N.
 pub fn answer_number(word: &[u8]) -> Option<u64>
     ensures { result ≡ answer_number word.now }
 {
-    if word.len() >= 1 && word[0] == b'@' {
-        number(&word[1..], u64::MAX)
-    } else {
-        None
-    }
+    number(word.strip_prefix(b"@")?, u64::MAX)
 }

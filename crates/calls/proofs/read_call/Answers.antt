@@ -1,31 +1,28 @@
-use Rattle.std.proofs.Common.{rules}
+use Rattle.std.proofs.Common.{◌≡◌, codes, rules}
+use Rattle.std.proofs.lemmas.Slice.Eq.{text_from_reads}
 use Rattle.calls.specs.Calls.{called_by}
 use Rattle.calls.proofs.read_call.Goals as goal
 
-pub returns-then-is : goal.returns-then-is
+pub returns-in-install : goal.returns-in-install
 unfolding called_by
-returns-then-is c = search rules
+returns-in-install c =
+    let is : c.word.result.now ≡ codes "install" = text_from_reads c.word.result.now (codes "install") (search rules) (search rules) in
+    search rules
 
-pub returns-then-is-2 : goal.returns-then-is-2
+pub returns-in-revoke : goal.returns-in-revoke
 unfolding called_by
-returns-then-is-2 c = search rules
+returns-in-revoke c =
+    let is : c.word.result.now ≡ codes "revoke" = text_from_reads c.word.result.now (codes "revoke") (search rules) (search rules) in
+    search rules
 
-pub returns-then-is-3 : goal.returns-then-is-3
+pub returns-in-protect : goal.returns-in-protect
 unfolding called_by
-returns-then-is-3 c = search rules
+returns-in-protect c =
+    let is : c.word.result.now ≡ codes "protect" = text_from_reads c.word.result.now (codes "protect") (search rules) (search rules) in
+    search rules
 
-pub returns-then-is-4 : goal.returns-then-is-4
+pub returns-in-receive : goal.returns-in-receive
 unfolding called_by
-returns-then-is-4 c = search rules
-
-pub returns-then-is-5 : goal.returns-then-is-5
-unfolding called_by
-returns-then-is-5 c = search rules
-
-pub returns-then-is-6 : goal.returns-then-is-6
-unfolding called_by
-returns-then-is-6 c = search rules
-
-pub returns-else-is-6 : goal.returns-else-is-6
-unfolding called_by
-returns-else-is-6 c = search rules
+returns-in-receive c =
+    let is : c.word.result.now ≡ codes "receive" = text_from_reads c.word.result.now (codes "receive") (search rules) (search rules) in
+    search rules

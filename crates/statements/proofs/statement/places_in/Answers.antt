@@ -1,15 +1,10 @@
-use Rattle.std.proofs.Common.{rules}
+use Rattle.std.proofs.Common.{◌≡◌, codes, rules}
+use Rattle.std.proofs.lemmas.Slice.Eq.{text_from_reads}
 use Rattle.statements.specs.Statements.{places}
 use Rattle.statements.proofs.statement.places_in.Goals as goal
 
-pub returns-then-is_empty : goal.returns-then-is_empty
+pub returns-in-places : goal.returns-in-places
 unfolding places
-returns-then-is_empty c = search rules
-
-pub returns-then-is : goal.returns-then-is
-unfolding places
-returns-then-is c = search rules
-
-pub returns-else-is : goal.returns-else-is
-unfolding places
-returns-else-is c = search rules
+returns-in-places c =
+    let is : c.word.result.now ≡ codes "places" = text_from_reads c.word.result.now (codes "places") (search rules) (search rules) in
+    search rules

@@ -1,6 +1,0 @@
-use Rattle.std.proofs.Common.{◌≡◌, length}
-use Rattle.gateway.proofs.read_source.Given as goal
-
--- the chunk keeps its length
-abbrev pub invariant-loop : goal.invariant-loop
-invariant-loop g l = length l.chunk ≡ 4096
