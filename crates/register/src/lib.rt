@@ -9,6 +9,7 @@ mod record;
 
 use places::{clear, count_held, count_not_past, drop_past, free_place, front, place_of};
 pub use record::{Ending, Keyed};
+use std::error::Error;
 use std::fmt;
 
 // Records of one kind, each in a place of its own, no key twice.
@@ -29,9 +30,12 @@ impl fmt::Display for Full {
     }
 }
 
+impl Error for Full {}
+
 impl<'a, R: Keyed> Register<'a, R> {
     // An empty register in the places lent, of which it uses the kind's bound at most.
     // Those beyond stay as they are: `clear` promises it, and `front` lends the register no hold of them.
+    #[tactic(auto, using(crate::proofs::Lookups::free_apart, crate::proofs::Fronts::front_free))]
     pub fn new(places: &'a mut [Option<R>]) -> Register<'a, R>
         ensures empty { Empty R.Keyed.key R.Key.eq result.places.now }
         ensures capacity { length result.places.now ≡ min (length places.old) R.Keyed.MOST }
@@ -73,6 +77,7 @@ impl<'a, R: Keyed> Register<'a, R> {
     }
 
     // Holds the record: in place of the one under the same key, or else in a free place.
+    #[tactic(auto, using(crate::proofs::Changes::apart_with, crate::proofs::Positions::place_at))]
     pub fn put(&mut self, new: R) -> Result<(), Full>
         ensures { Put R.Keyed.key R.Key.eq new self.old.places.now self.new.places.now (is_ok result) }
     {
@@ -82,6 +87,7 @@ impl<'a, R: Keyed> Register<'a, R> {
     }
 
     // Drops the record under a key, and answers it.
+    #[tactic(auto, using(crate::proofs::Changes::apart_without))]
     pub fn remove(&mut self, key: R::Key) -> Option<R>
         ensures { Removed R.Keyed.key R.Key.eq key self.old.places.now self.new.places.now result }
     {
@@ -91,6 +97,7 @@ impl<'a, R: Keyed> Register<'a, R> {
     }
 
     // The place of the record under a key.
+    #[tactic(auto, using(crate::proofs::Positions::place_found))]
     fn place(&self, key: R::Key) -> Option<usize>
         ensures { MatchOption result (lookup R.Keyed.key R.Key.eq key self.now.places.now ≡ None) (λ i. PlaceOf R.Keyed.key R.Key.eq key self.now.places.now i × (is_some (lookup R.Keyed.key R.Key.eq key self.now.places.now) ≡ true)) }
     {

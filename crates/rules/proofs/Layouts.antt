@@ -1,6 +1,6 @@
 -- Messages laid out and read.
-use Rattle.std.proofs.Common.{◌≡◌, ℕ, suc, ◌+◌, ◌-◌, ◌^◌, ◌<◌, ◌≤◌, List, ◌∷◌, ◌++◌, length, get_or, take, drop, sym, refl, ap, ◌∙◌, arith}
-use Rattle.std.proofs.ByRecursion.{All-take, All-drop}
+use Rattle.std.proofs.Common.{◌≡◌, ℕ, suc, ◌+◌, ◌-◌, ◌^◌, ◌<◌, ◌≤◌, List, ◌∷◌, ◌++◌, length, get_or, take, drop, Fits, w8, sym, refl, ap, ◌∙◌, arith}
+use Rattle.std.proofs.ByRecursion.{All-take, All-drop, All-from_get_or}
 use Rattle.std.proofs.lemmas.List.{append_assoc, take-append-drop, take_all, take_at, take_rest, drop_at, drop_more, drop-drop, drop-take, take-take, length-take-le, length-drop, length-append}
 use Rattle.octets.specs.Numbers.{Octets, octets_of, number}
 use Rattle.octets.proofs.Widths.{length_octets, octets_number, stand_for_each_other}
@@ -9,6 +9,10 @@ use Rattle.rules.specs.declared.message.SecurityHeader.{SecurityHeader}
 use Rattle.rules.specs.Layout.{part, open_header, iv_part, sealed_header, open_message, sealed_message, header_in, fields_in, sealed_payload, tag_in, HeaderFits, FieldsFit, OpenUndone, SealedUndone, ReadingUndoesLayingOut}
 
 -- PARTS
+
+-- what the type of a message says of each octet
+pub octets_known : (xs : List ℕ) → ((i : ℕ) → Fits w8 (get_or xs i 0)) → Octets xs
+octets_known xs fits = All-from_get_or (λ x. x < 256) xs 0 (λ i _. omega (arith, fits i))
 
 -- the octet at a place, and then the rest of the part
 part_more : (xs : List ℕ) (place width : ℕ) → place < length xs → part place (suc width) xs ≡ get_or xs place 0 ∷ part (place + 1) width xs

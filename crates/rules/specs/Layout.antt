@@ -1,7 +1,7 @@
 -- The layout of MAPsec messages, as TS 33.200, clause 5.5, has it. All numbers go most significant octet first.
 --   mode 0:         SPI 4, kind 1, code 1; the cleartext
 --   modes 1 and 2:  SPI 4, kind 1, code 1, TVP 4, NE-Id 6, Prop 4; the payload; the tag 4
-use Rattle.std.specs.Prelude.{◌≡◌, ℕ, ◌+◌, ◌-◌, ◌^◌, ◌<◌, ◌≤◌, Bool, true, false, List, [], ◌∷◌, ◌++◌, length, take, drop, Ok, Err, Result, nat_lt, slice_index}
+use Rattle.std.specs.Prelude.{◌≡◌, ℕ, ◌+◌, ◌-◌, ◌^◌, ◌<◌, ◌≤◌, Bool, true, false, List, [], ◌∷◌, ◌++◌, length, take, drop, Ok, Err, Result, MatchResult, nat_lt, slice_index}
 use Rattle.octets.specs.Numbers.{octets_of, number}
 use Rattle.rules.specs.declared.message.SecurityHeader.{SecurityHeader}
 use Rattle.rules.specs.declared.message.IvFields.{IvFields}
@@ -83,6 +83,13 @@ pub record SealedParts (xs : List ℕ) (m : SealedMessage) : Type 0 where
   pub tag : PartAt xs (length xs - 4) 4 m.tag
   pub claimed : m.claimed ≡ tag_in xs
   pub laid_out : xs ≡ sealed_message (header_in xs) m.fields m.payload.octets.now m.claimed
+
+-- what reading one shape answers, or that the message is too short for it
+abbrev pub ReadsOpen : List ℕ → Result OpenMessage Refusal → Type 0
+ReadsOpen xs r = MatchResult r (λ m. (6 ≤ length xs) × OpenParts xs m) (λ e. (length xs < 6) × (e ≡ MessageTooShort (length xs)))
+
+abbrev pub ReadsSealed : List ℕ → Result SealedMessage Refusal → Type 0
+ReadsSealed xs r = MatchResult r (λ m. (24 ≤ length xs) × SealedParts xs m) (λ e. (length xs < 24) × (e ≡ MessageTooShort (length xs)))
 
 -- What reading answers: the shape of the mode, or that the message is too short for it.
 abbrev pub ReadsAs : List ℕ → Bool → Result Message Refusal → Type 0

@@ -3,6 +3,7 @@ ghost use Rattle.std.specs.Prelude.{◌≡◌};
 ghost use Rattle.std.specs.Result.{result_ok};
 ghost use Rattle.rules.specs.Components.{kind_of};
 
+use std::error::Error;
 use std::fmt;
 
 // The kinds of component that are protected, by their octet on the wire.
@@ -37,6 +38,8 @@ impl fmt::Display for UnknownKind {
         write!(f, "{} stands for no kind of component", self.0)
     }
 }
+
+impl Error for UnknownKind {}
 
 // The original component identifier: a kind octet, and the operation code (for an error the error code).
 // It is kept as it came, so an identifier may be of no known kind.

@@ -2,7 +2,7 @@
 ghost use Rattle.std.specs.Prelude.{◌≡◌, ◌+◌, ◌≤◌, length};
 ghost use Rattle.octets.specs.Numbers.{number};
 ghost use Rattle.rules.specs.Checks.{decided};
-ghost use Rattle.rules.specs.Layout.{part, open_header, sealed_header, iv_part, iv_octets, header_in, fields_in, header_checks, Reads, ReadingUndoesLayingOut};
+ghost use Rattle.rules.specs.Layout.{part, open_header, sealed_header, iv_part, iv_octets, header_in, fields_in, header_checks, PartAt, ReadsOpen, ReadsSealed, Reads, ReadingUndoesLayingOut};
 
 use crate::component::ComponentId;
 use crate::protection::ProtectionMode;
@@ -86,6 +86,18 @@ impl IvFields {
         [t0, t1, t2, t3, n0, n1, n2, n3, n4, n5, p0, p1, p2, p3]
     }
 
+    // The fields in the header of a message.
+    fn read(message: &[u8]) -> IvFields
+        requires { 20 ≤ length message.now }
+        ensures { result ≡ fields_in message.now }
+    {
+        IvFields {
+            tvp: number_at::<4, _>(message, 6),
+            ne_id: number_at::<6, _>(message, 10),
+            prop: number_at::<4, _>(message, 16),
+        }
+    }
+
     // The IV: TVP, NE-Id, Prop and two zero octets.
     pub fn iv(self) -> [u8; 16]
         ensures { result ≡ iv_octets self }
@@ -107,27 +119,76 @@ fn number_at<const N: usize, T: Octets<N>>(octets: &[u8], place: usize) -> T
 }
 
 // Octets of a message, with the place of the first of them.
-#[derive(Clone, Copy)]
+#[derive(Clone, Copy, Debug, PartialEq, Eq)]
 pub struct Part<'a> {
     pub place: usize,
     pub octets: &'a [u8],
 }
 
+impl<'a> Part<'a> {
+    // So many octets of a message from a place on.
+    fn at(message: &'a [u8], place: usize, width: usize) -> Part<'a>
+        requires { place + width ≤ length message.now }
+        ensures { PartAt message.now place width result }
+    {
+        Part {
+            place,
+            octets: &message[place..place + width],
+        }
+    }
+}
+
 // A message in mode 0.
-#[derive(Clone, Copy)]
+#[derive(Clone, Copy, Debug, PartialEq, Eq)]
 pub struct OpenMessage<'a> {
     pub header: Part<'a>,
     pub payload: Part<'a>,
 }
 
+impl<'a> OpenMessage<'a> {
+    #[tactic(auto, using(crate::proofs::Layouts::octets_known, crate::proofs::Layouts::open_laid))]
+    fn read(message: &'a [u8]) -> Result<OpenMessage<'a>, Refusal>
+        ensures { ReadsOpen message.now result }
+    {
+        let length = message.len();
+        if length < OPEN_HEADER {
+            return Err(Refusal::MessageTooShort { length });
+        }
+        Ok(OpenMessage {
+            header: Part::at(message, 0, OPEN_HEADER),
+            payload: Part::at(message, OPEN_HEADER, length - OPEN_HEADER),
+        })
+    }
+}
+
 // A message in mode 1 or 2, with what its header and its tag say as numbers.
-#[derive(Clone, Copy)]
+#[derive(Clone, Copy, Debug, PartialEq, Eq)]
 pub struct SealedMessage<'a> {
     pub header: Part<'a>,
     pub fields: IvFields,
     pub payload: Part<'a>,
     pub tag: Part<'a>,
     pub claimed: u32,
+}
+
+impl<'a> SealedMessage<'a> {
+    #[tactic(auto, using(crate::proofs::Layouts::octets_known, crate::proofs::Layouts::sealed_laid))]
+    fn read(message: &'a [u8]) -> Result<SealedMessage<'a>, Refusal>
+        ensures { ReadsSealed message.now result }
+    {
+        let length = message.len();
+        if length < SHORTEST_SEALED {
+            return Err(Refusal::MessageTooShort { length });
+        }
+        let end = length - TAG;
+        Ok(SealedMessage {
+            header: Part::at(message, 0, SEALED_HEADER),
+            fields: IvFields::read(message),
+            payload: Part::at(message, SEALED_HEADER, length - SHORTEST_SEALED),
+            tag: Part::at(message, end, TAG),
+            claimed: number_at::<4, _>(message, end),
+        })
+    }
 }
 
 // What reading yields: one of two shapes, whose parts are the message's own octets.
@@ -137,58 +198,15 @@ pub enum Message<'a> {
     Sealed(SealedMessage<'a>),
 }
 
-// The header's fields behind SPI and identifier.
-fn fields_of(message: &[u8]) -> IvFields
-    requires { 20 ≤ length message.now }
-    ensures { result ≡ fields_in message.now }
-{
-    IvFields {
-        tvp: number_at::<4, _>(message, 6),
-        ne_id: number_at::<6, _>(message, 10),
-        prop: number_at::<4, _>(message, 16),
-    }
-}
-
 // Reads a message of a mode, or refuses one that is too short for its shape.
 pub fn read(message: &[u8], mode: ProtectionMode) -> Result<Message<'_>, Refusal>
     ensures { Reads message.now mode result }
 {
-    let length = message.len();
     if mode.protects() {
-        if length < SHORTEST_SEALED {
-            return Err(Refusal::MessageTooShort { length });
-        }
-        let end = length - TAG;
-        return Ok(Message::Sealed(SealedMessage {
-            header: Part {
-                place: 0,
-                octets: &message[0..SEALED_HEADER],
-            },
-            fields: fields_of(message),
-            payload: Part {
-                place: SEALED_HEADER,
-                octets: &message[SEALED_HEADER..end],
-            },
-            tag: Part {
-                place: end,
-                octets: &message[end..length],
-            },
-            claimed: number_at::<4, _>(message, end),
-        }));
+        SealedMessage::read(message).map(Message::Sealed)
+    } else {
+        OpenMessage::read(message).map(Message::Open)
     }
-    if length < OPEN_HEADER {
-        return Err(Refusal::MessageTooShort { length });
-    }
-    Ok(Message::Open(OpenMessage {
-        header: Part {
-            place: 0,
-            octets: &message[0..OPEN_HEADER],
-        },
-        payload: Part {
-            place: OPEN_HEADER,
-            octets: &message[OPEN_HEADER..length],
-        },
-    }))
 }
 
 // The theorem: reading what was laid out gives the fields back.

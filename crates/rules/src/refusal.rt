@@ -2,6 +2,7 @@
 ghost use Rattle.std.specs.Prelude.{◌≡◌, ◌/◌};
 ghost use Rattle.rules.specs.Refusals.{setting_position, policy_position, association_position, number_of, place_of};
 
+use std::error::Error;
 use std::fmt;
 
 // The settings of a station, in the order in which they are checked.
@@ -267,3 +268,5 @@ impl fmt::Display for Refusal {
         }
     }
 }
+
+impl Error for Refusal {}

@@ -24,7 +24,7 @@ pub fn lead(reading: u64, stamp: u32) -> u32
 }
 
 // The ticks around a reading whose stamps are fresh: so many back, so many ahead.
-#[derive(Clone, Copy)]
+#[derive(Clone, Copy, Debug, PartialEq, Eq)]
 pub struct Window {
     pub back: u64,
     pub ahead: u64,

@@ -1,14 +1,8 @@
 use Rattle.std.proofs.Common.{None, sym, subst}
-use Rattle.register.specs.Places.{Apart, Empty}
+use Rattle.register.specs.Places.{Empty}
 use Rattle.register.proofs.Fronts.{front_free}
-use Rattle.register.proofs.Lookups.{free_apart, free_empty}
+use Rattle.register.proofs.Lookups.{free_empty}
 use Rattle.register.proofs.Register.new.Goals as goal
-
-pub invariant_of-result : goal.invariant_of-result
-invariant_of-result g c =
-    let m = g.R.Keyed in
-    let eq = g.R.Key.PartialEq.eq in
-    record { apart = subst (Apart m.key eq) (sym c.front.ensures) (free_apart m.key eq _ (front_free m.MOST c.clear.new.places None c.clear.ensures.emptied)) }
 
 pub returns-clause-empty : goal.returns-clause-empty
 returns-clause-empty g c =

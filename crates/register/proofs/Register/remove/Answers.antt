@@ -1,10 +1,5 @@
-use Rattle.register.proofs.Changes.{removes, apart_without}
+use Rattle.register.proofs.Changes.{removes}
 use Rattle.register.proofs.Register.remove.Goals as goal
-
-pub invariant_of-self : goal.invariant_of-self
-invariant_of-self g c =
-    let self = c.args.self.now in
-    record { apart = apart_without g.R.Keyed.key g.R.Key.PartialEq.eq g.met.R.Key.Eq.laws self.places.now self.apart c.args.key c.in_ok-i.i c.in_ok-i.ensures.0 c.take.new.self c.take.ensures.after }
 
 pub returns : goal.returns
 returns g c =
