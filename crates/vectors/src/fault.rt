@@ -1,46 +1,27 @@
 // Why a line is not answered.
-use std::alloc::{AllocError, AllocFailed};
-use std::fmt;
+use std::alloc::AllocError;
+use thiserror::Error;
 
-#[derive(Debug, Drop)]
+#[derive(Debug, Drop, Error)]
 pub enum Fault {
-    Memory,
+    #[error("out of memory")]
+    Memory(#[from(alloc)] AllocError),
     // No request has this name.
+    #[error("expected ecb, cbc, ctr, mac or expand")]
     Unknown,
     // A word is missing.
+    #[error("{0} is missing")]
     Missing(&'static str),
     // A word is not hex digits, two for each octet.
+    #[error("{0} is not pairs of hex digits")]
     NotHex(&'static str),
     // A word is not sixteen octets.
+    #[error("{0} is not sixteen octets")]
     NotSixteen(&'static str),
     // The octets are not whole blocks.
+    #[error("the octets are not whole blocks of sixteen")]
     NotWhole,
     // There are more words than the request has.
+    #[error("there are too many words")]
     TooMany,
-}
-
-impl From<AllocError> for Fault {
-    fn from(_e: AllocError) -> Fault {
-        Fault::Memory
-    }
-}
-
-impl<T: Drop> From<AllocFailed<T>> for Fault {
-    fn from(_e: AllocFailed<T>) -> Fault {
-        Fault::Memory
-    }
-}
-
-impl fmt::Display for Fault {
-    fn fmt<W: fmt::Write>(&self, f: &mut fmt::Formatter<W>) -> fmt::Result {
-        match self {
-            Fault::Memory => write!(f, "out of memory"),
-            Fault::Unknown => write!(f, "expected ecb, cbc, ctr, mac or expand"),
-            Fault::Missing(what) => write!(f, "{what} is missing"),
-            Fault::NotHex(what) => write!(f, "{what} is not pairs of hex digits"),
-            Fault::NotSixteen(what) => write!(f, "{what} is not sixteen octets"),
-            Fault::NotWhole => write!(f, "the octets are not whole blocks of sixteen"),
-            Fault::TooMany => write!(f, "there are too many words"),
-        }
-    }
 }

@@ -9,7 +9,7 @@ use banks::tag::{Mia1, TagAlgorithm, TagBank};
 use hex::FromHexError;
 use keys::{Iv, Key};
 use octets::Octets;
-use std::alloc::Global;
+use std::alloc::{AllocError, Global};
 use std::str::SplitWhitespace;
 
 // What a line asks for.
@@ -51,7 +51,7 @@ impl Words<'_> {
     fn octets(&mut self, what: &'static str) -> Result<Vec<u8>, Fault> {
         let word = self.rest.next().ok_or(Fault::Missing(what))?;
         written::read(self.heap, word).map_err(|error| match error {
-            FromHexError::OutOfMemory => Fault::Memory,
+            FromHexError::OutOfMemory => Fault::Memory(AllocError),
             _ => Fault::NotHex(what),
         })
     }
