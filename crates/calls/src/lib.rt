@@ -6,7 +6,7 @@ ghost use Rattle.calls.specs.Calls.{parties, algorithms, lifetime, admit, instal
 
 use words::fault::{Expected, Fault};
 use words::line::Line;
-use words::numbers::WrittenKey;
+use keys::Key;
 
 /// Who sends under an association, to whom, and by which SPI.
 #[derive(Clone, Copy)]
@@ -20,9 +20,9 @@ pub struct Parties {
 #[derive(Clone, Copy)]
 pub struct Algorithms {
     pub mea: u8,
-    pub mek: WrittenKey,
+    pub mek: Key,
     pub mia: u8,
-    pub mik: WrittenKey,
+    pub mik: Key,
 }
 
 /// The profile of an association, and how long it is used.

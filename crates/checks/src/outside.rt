@@ -2,16 +2,14 @@
 // A line of the file is READING SPI KIND CODE MEK MIK PROP CLEARTEXT MESSAGE, numbers and octets as in the command language.
 use crate::setup::{INVOKE, answers, association, beginning, protects, receives};
 use anyhow::anyhow;
-use keys::Key;
 use rehearsal::log::Answer;
 use rules::component::ComponentId;
 use station::records::SecurityAssociation;
 use std::alloc::Global;
 use std::fs;
-use words::cut::word_at;
 use words::fault::Fault;
-use words::fields::{key_at, number_at, u8_at, u32_at};
-use words::numbers::{WrittenKey, octets};
+use words::line::Line;
+use words::numbers::octets;
 
 // A line of the file, without its octets.
 #[derive(Clone, Copy)]
@@ -23,34 +21,25 @@ struct Case {
     prop: u8,
 }
 
-// The key that is written.
-fn key(written: WrittenKey) -> Key {
-    let WrittenKey { high, low } = written;
-    Key { high, low }
-}
-
-fn case_of(line: &[u8]) -> Result<Case, Fault> {
-    let reading = number_at(line, 0, u64::MAX)?;
-    let spi = u32_at(line, 1)?;
-    let kind = u8_at(line, 2)?;
-    let code = u8_at(line, 3)?;
-    let mek = key_at(line, 4)?;
-    let mik = key_at(line, 5)?;
-    let prop = u8_at(line, 6)?;
+fn case_of(line: Line<'_>) -> Result<Case, Fault> {
+    let reading = line.number(0)?;
+    let spi = line.number(1)?;
+    let kind = line.number(2)?;
+    let code = line.number(3)?;
+    let mek = line.key(4)?;
+    let mik = line.key(5)?;
+    let prop = line.number(6)?;
     Ok(Case {
         reading,
         component: ComponentId { kind, code },
-        association: association(spi, key(mek), key(mik), reading),
+        association: association(spi, mek, mik, reading),
         prop,
     })
 }
 
 // The octets at a place of a line.
-fn octets_at(heap: Global, line: &[u8], place: usize) -> anyhow::Result<Vec<u8>> {
-    match octets(heap, word_at(line, place))? {
-        Some(octets) => Ok(octets),
-        None => Err(anyhow!("there are no octets where they should be")),
-    }
+fn octets_at(heap: Global, line: Line<'_>, place: usize) -> anyhow::Result<Vec<u8>> {
+    octets(heap, line.word(place))?.ok_or(anyhow!("there are no octets where they should be"))
 }
 
 // What the stations answer to a case: the last two lines are the protect and the receive.
@@ -102,11 +91,10 @@ fn said(alike: bool) -> &'static str {
 }
 
 // Prints whether a case is built and read as the outside AES did.
-fn print_case(rt: &HostRuntime, number: u64, line: &[u8]) -> anyhow::Result<()> {
+fn print_case(rt: &HostRuntime, number: u64, line: Line<'_>) -> anyhow::Result<()> {
     let heap = rt.alloc();
-    let case = match case_of(line) {
-        Ok(case) => case,
-        Err(_) => return Err(anyhow!(format!(in heap; "case {number} cannot be read")?)),
+    let Ok(case) = case_of(line) else {
+        return Err(anyhow!("case {number} cannot be read"));
     };
     let cleartext = octets_at(heap, line, 7)?;
     let message = octets_at(heap, line, 8)?;
@@ -124,13 +112,17 @@ fn print_case(rt: &HostRuntime, number: u64, line: &[u8]) -> anyhow::Result<()> 
 // Prints a line for each case of a file.
 pub fn print_cases(rt: &HostRuntime, file: &str) -> anyhow::Result<()> {
     let text = fs::read_to_string(rt, file)?;
-    let mut number = 0u64;
-    for line in text.lines() {
-        if line.is_empty() || line.starts_with('#') {
-            continue;
-        }
-        number = number.wrapping_add(1);
-        print_case(rt, number, line.as_bytes())?;
+    let cases = text
+        .lines()
+        .filter(|line| !line.is_empty() && !line.starts_with('#'));
+    for (number, line) in (1u64..).zip(cases) {
+        print_case(
+            rt,
+            number,
+            Line {
+                octets: line.as_bytes(),
+            },
+        )?;
     }
     Ok(())
 }

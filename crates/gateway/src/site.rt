@@ -1,6 +1,5 @@
 // The stations of a run. Each is made at its first call, with the places that it was declared with.
 use crate::answers::{Outcome, Reply};
-use keys::Key;
 use calls::{Algorithms, Call, Lifetime, Parties};
 use delivery::Gateway;
 use desk::Declared;
@@ -13,7 +12,6 @@ use station::records::{HeardMessage, Policy, SecurityAssociation};
 use station::registers::Registers;
 use std::alloc::{AllocError, Global};
 use std::mem;
-use words::numbers::WrittenKey;
 
 /// The memory of one station: as many places as it may use.
 #[derive(Drop)]
@@ -128,12 +126,6 @@ impl<'a> Site<'a> {
     }
 }
 
-/// The key that is written.
-fn key(written: WrittenKey) -> Key {
-    let WrittenKey { high, low } = written;
-    Key { high, low }
-}
-
 /// The association that is written.
 fn association(
     parties: Parties,
@@ -145,9 +137,9 @@ fn association(
         destination: parties.destination,
         spi: parties.spi,
         mea: algorithms.mea,
-        cipher_key: key(algorithms.mek),
+        cipher_key: algorithms.mek,
         mia: algorithms.mia,
-        integrity_key: key(algorithms.mik),
+        integrity_key: algorithms.mik,
         ppi: lifetime.ppi,
         soft: lifetime.soft,
         hard: lifetime.hard,

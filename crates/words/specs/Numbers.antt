@@ -2,7 +2,7 @@
 use Rattle.std.specs.Prelude.{ℕ, ◌+◌, ◌*◌, ◌%◌, ◌^◌, Bool, true, cond, ◌&&◌, List, [], ◌∷◌, length, take, drop, Some, None, codes, Option, ◌==◌, nat_le, nat_lt}
 use Rattle.std.specs.Char.{digit_value}
 use Rattle.std.specs.Str.{bytes_eq}
-use Rattle.words.specs.declared.numbers.WrittenKey.{WrittenKey}
+use Rattle.keys.specs.declared.Key.{Key}
 
 -- every octet is a digit of the base
 abbrev pub digits : ℕ → List ℕ → Bool
@@ -28,13 +28,13 @@ unfoldable pub number : ℕ → List ℕ → Option ℕ
 number limit w = cond (hexadecimal w) (numeral 16 limit (drop 2 w)) (numeral 10 limit w)
 
 -- a key of two halves, where there are both
-abbrev pub joined : Option ℕ → Option ℕ → Option WrittenKey
+abbrev pub joined : Option ℕ → Option ℕ → Option Key
 joined (Some h) (Some l) = Some (record { high = h; low = l })
 joined (Some h) None = None
 joined None low = None
 
 -- the key that 32 hexadecimal digits stand for, eight octets to each half
-unfoldable pub key : List ℕ → Option WrittenKey
+unfoldable pub key : List ℕ → Option Key
 key w =
     cond (length w == 32) (joined (numeral 16 18446744073709551615 (take 16 w)) (numeral 16 18446744073709551615 (drop 16 w))) None
 

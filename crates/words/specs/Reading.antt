@@ -8,7 +8,7 @@ use Rattle.words.specs.declared.fault.Expected.TheVariants as expected
 use Rattle.words.specs.declared.fault.Fault.{Fault}
 use Rattle.words.specs.declared.fault.Keyword.{Keyword}
 use Rattle.words.specs.declared.fault.Keyword.TheVariants.{Own, Ne, Back, Ahead, Fallback}
-use Rattle.words.specs.declared.numbers.WrittenKey.{WrittenKey}
+use Rattle.keys.specs.declared.Key.{Key}
 
 -- what a word stands for, or else the fault
 abbrev pub required : {X : Type 0} → Option X → ℕ → Expected → Result X Fault
@@ -50,7 +50,7 @@ unfoldable pub number_at : ℕ → ℕ → List ℕ → Result ℕ Fault
 number_at limit n line = required (number limit (word_at n line)) n (expected.Number limit)
 
 -- as a key
-unfoldable pub key_at : ℕ → List ℕ → Result WrittenKey Fault
+unfoldable pub key_at : ℕ → List ℕ → Result Key Fault
 key_at n line = required (key (word_at n line)) n expected.Key
 
 -- as yes or no

@@ -7,7 +7,8 @@ ghost use Rattle.words.specs.Words.{word_at};
 
 use crate::cut::first_word;
 use crate::fault::{Expected, Fault, Keyword};
-use crate::numbers::{Unsigned, WrittenKey, key, number};
+use crate::numbers::{Unsigned, key, number};
+use keys::Key;
 
 /// What `yes` and `no` stand for.
 fn yes_or_no(word: &[u8]) -> Option<bool>
@@ -61,7 +62,7 @@ impl<'a> Line<'a> {
     }
 
     /// The key at a place.
-    pub fn key(self, place: usize) -> Result<WrittenKey, Fault>
+    pub fn key(self, place: usize) -> Result<Key, Fault>
         ensures { result ≡ key_at place self.entry.octets.now }
     {
         key(self.word(place)).ok_or(Fault {

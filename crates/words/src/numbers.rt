@@ -4,6 +4,7 @@ ghost use Rattle.std.specs.Option.{SomeIff, option_map};
 ghost use Rattle.std.specs.Char.{digit_value};
 ghost use Rattle.words.specs.Numbers.{numeral, number, key, octets, answer_number};
 
+use keys::Key;
 use std::alloc::{AllocError, Global};
 
 /// An unsigned number of some width: each number up to its limit is one.
@@ -102,23 +103,16 @@ pub fn number(word: &[u8], limit: u64) -> Option<u64>
     }
 }
 
-/// A key of sixteen octets: its first eight as one number, and its last eight.
-#[derive(Clone, Copy)]
-pub struct WrittenKey {
-    pub high: u64,
-    pub low: u64,
-}
-
 #[tactic(auto, unfolding(crate::specs::Numbers::key))]
 /// The key that a word of 32 hexadecimal digits stands for.
-pub fn key(word: &[u8]) -> Option<WrittenKey>
+pub fn key(word: &[u8]) -> Option<Key>
     ensures { result ≡ key word.now }
 {
     if word.len() != 32 {
         return None;
     }
     let (high, low) = word.split_at(16);
-    Some(WrittenKey {
+    Some(Key {
         high: numeral(high, 16, u64::MAX)?,
         low: numeral(low, 16, u64::MAX)?,
     })
