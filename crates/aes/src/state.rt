@@ -81,11 +81,12 @@ pub(crate) fn sub_bytes(s: State) -> State
 pub(crate) fn shift_rows(s: State) -> State
     ensures { result ≡ shift_rows s }
 {
+    let [p, q, r, s] = s;
     [
-        s[0],
-        s[1].turned(),
-        s[2].turned().turned(),
-        s[3].turned().turned().turned(),
+        p,
+        q.turned(),
+        r.turned().turned(),
+        s.turned().turned().turned(),
     ]
 }
 
@@ -112,11 +113,12 @@ fn mix_row(p: Row, q: Row, r: Row, s: Row) -> Row
 pub(crate) fn mix_columns(s: State) -> State
     ensures { result ≡ mix_columns s }
 {
+    let [p, q, r, s] = s;
     [
-        mix_row(s[0], s[1], s[2], s[3]),
-        mix_row(s[1], s[2], s[3], s[0]),
-        mix_row(s[2], s[3], s[0], s[1]),
-        mix_row(s[3], s[0], s[1], s[2]),
+        mix_row(p, q, r, s),
+        mix_row(q, r, s, p),
+        mix_row(r, s, p, q),
+        mix_row(s, p, q, r),
     ]
 }
 
