@@ -1,13 +1,11 @@
 -- What the readers of words hand on. Assumes nothing.
-use Rattle.std.proofs.Common.{◌≡◌, ℕ, ◌≤◌, ◌&&◌, ltb, leb, List, length, drop, IfSome, IsErrAnd, IfOk, Some, None, Ok, Err, Option, Result, ap, ◌∙◌}
+use Rattle.std.proofs.Common.{ℕ, ◌≤◌, ◌&&◌, ltb, leb, List, length, drop, IfSome, IfOk, Some, None, Option}
 use Rattle.std.proofs.lemmas.Bool.{cond_both, and_parts, leb-true}
-use Rattle.std.proofs.lemmas.Result.{err_from_is_err_and}
 use Rattle.words.specs.Numbers.{digits, value, numeral, number, hexadecimal}
-use Rattle.words.specs.Reading.{required, next, number_at}
+use Rattle.words.specs.Reading.{required, number_at}
 use Rattle.words.specs.Words.{word_at}
 use Rattle.words.specs.declared.fault.Expected.{Expected}
 use Rattle.words.specs.declared.fault.Expected.TheVariants as expected
-use Rattle.words.specs.declared.fault.Fault.{Fault}
 
 numeral_low : (base limit : ℕ) (cs : List ℕ) → IfSome (numeral base limit cs) (λ n. n ≤ limit)
 unfolding numeral
@@ -26,16 +24,6 @@ number_low limit w =
 pub made_required : (o : Option ℕ) (n : ℕ) (e : Expected) (P : ℕ → Type 0) → IfSome o P → IfOk (required o n e) P
 made_required (Some x) n e P h = h
 made_required None n e P h = tt
-
--- a reader that finds a fault ends the reading
-pub stops : {X Y : Type 0} (s : Result Y Fault) (f : Fault) (a : Result X Fault) (k : X → Result Y Fault) → IsErrAnd s (λ y. y ≡ f) → Err f ≡ a → s ≡ next a k
-stops s f a k by is =
-    let p = err_from_is_err_and s by in
-    p.1 ∙ ap Err p.2 ∙ ap (λ b. next b k) is
-
--- a reader that answers hands its value on
-pub goes : {X Y : Type 0} (x : X) (a : Result X Fault) (k : X → Result Y Fault) → Ok x ≡ a → k x ≡ next a k
-goes x a k is = ap (λ b. next b k) is
 
 -- a number at a place is within its limit
 pub number_at_low : (limit n : ℕ) (line : List ℕ) → IfOk (number_at limit n line) (λ k. k ≤ limit)

@@ -1,7 +1,7 @@
 // What the word at a place of a line stands for, or the fault that it is something else.
 #![tactic(auto, unfolding(crate::specs::Reading::number_at, crate::specs::Reading::key_at, crate::specs::Reading::flag_at, crate::specs::Reading::keyword_at, crate::specs::Reading::end_at, crate::specs::Reading::field_at, crate::specs::Reading::switch_at))]
 
-ghost use Rattle.std.specs.Prelude.{◌≡◌, ◌+◌, ◌-◌, ◌^◌, ◌<◌, ◌≤◌, IfOk};
+ghost use Rattle.std.specs.Prelude.{◌≡◌, ◌≤◌, IfOk};
 ghost use Rattle.words.specs.Reading.{Tells, flag as flag_of, number_at, key_at, flag_at, keyword_at, end_at, field_at, switch_at};
 ghost use Rattle.words.specs.Words.{word_at};
 
