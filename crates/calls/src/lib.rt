@@ -4,9 +4,9 @@
 ghost use Rattle.std.specs.Prelude.{◌≡◌};
 ghost use Rattle.calls.specs.Calls.{parties, algorithms, lifetime, admit, install, revoke, protect, receive, plain, called_by, verb, octets_place};
 
+use keys::Key;
 use words::fault::{Expected, Fault};
 use words::line::Line;
-use keys::Key;
 
 /// Who sends under an association, to whom, and by which SPI.
 #[derive(Clone, Copy)]
