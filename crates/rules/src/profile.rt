@@ -5,6 +5,7 @@ ghost use Rattle.rules.specs.Profiles.{level_in, row_in, levels_known, lines_apa
 use crate::protection::{LevelModes, level_modes};
 
 // One line of the protection profiles: under this PPI, operations of this code have this level.
+// The level is kept as it was written: settings with one that does not exist are refused.
 #[derive(Clone, Copy, Debug, PartialEq, Eq)]
 pub struct ProfileLine {
     pub ppi: u16,
@@ -37,6 +38,7 @@ pub(crate) fn levels_known(lines: &[ProfileLine]) -> bool
 }
 
 // Whether no two lines share PPI and code.
+// A loop: as `enumerate().all(..)` its proof did not close, since the definition goes down the lines.
 pub(crate) fn lines_apart(lines: &[ProfileLine]) -> bool
     ensures { result ≡ lines_apart lines.now }
 {
