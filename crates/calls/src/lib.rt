@@ -33,6 +33,7 @@ pub struct Lifetime {
     pub hard: u64,
 }
 
+// Kinds, codes and stances are numbers as they are written: a wrong one is for the station to refuse.
 /// A call at a station. The octets that it takes stay in its line: `octets_place` says where.
 #[derive(Clone, Copy)]
 pub enum Call {

@@ -52,6 +52,7 @@ impl LineCutter {
         self.number
     }
 
+    // A flag, and `line` beside it: a line that `put` lent would keep the cutter lent with it until it was done.
     /// Adds an octet, and says whether the line is complete with it. A line holds one octet
     /// more than the limit at most, since that may be the CR of its line end. The line that is
     /// complete and the lines that are still to come are the lines of the whole input.

@@ -78,8 +78,6 @@ impl Octets<16> for u128 {
 }
 
 // The theorem: octets and numbers of one width stand for each other.
-pub fn octets_and_numbers() -> u8
+pub fn octets_and_numbers()
     ensures { OctetsAndNumbers }
-{
-    0
-}
+{}

@@ -211,8 +211,6 @@ pub fn read(message: &[u8], mode: ProtectionMode) -> Result<Message<'_>, Refusal
 
 // The theorem: reading what was laid out gives the fields back.
 #[tactic(auto, using(crate::proofs::Layouts::undone))]
-pub fn reading_undoes_laying_out() -> u8
+pub fn reading_undoes_laying_out()
     ensures { ReadingUndoesLayingOut }
-{
-    0
-}
+{}

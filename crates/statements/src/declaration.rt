@@ -19,6 +19,7 @@ pub struct Places {
     pub heard: u64,
 }
 
+// Kinds, codes and levels are numbers as they are written: a wrong one is refused with the settings.
 /// What is declared of a station.
 #[derive(Clone, Copy)]
 pub enum Declaration {
