@@ -8,9 +8,8 @@ use rules::component::ComponentId;
 use station::records::SecurityAssociation;
 use std::alloc::Global;
 use std::fs;
-use words::cut::word_at;
 use words::fault::Fault;
-use words::fields::{key_at, number_at, u8_at, u32_at};
+use words::line::Line;
 use words::numbers::{WrittenKey, octets};
 
 // A line of the file, without its octets.
@@ -29,14 +28,14 @@ fn key(written: WrittenKey) -> Key {
     Key { high, low }
 }
 
-fn case_of(line: &[u8]) -> Result<Case, Fault> {
-    let reading = number_at(line, 0, u64::MAX)?;
-    let spi = u32_at(line, 1)?;
-    let kind = u8_at(line, 2)?;
-    let code = u8_at(line, 3)?;
-    let mek = key_at(line, 4)?;
-    let mik = key_at(line, 5)?;
-    let prop = u8_at(line, 6)?;
+fn case_of(line: Line<'_>) -> Result<Case, Fault> {
+    let reading = line.number(0)?;
+    let spi = line.number(1)?;
+    let kind = line.number(2)?;
+    let code = line.number(3)?;
+    let mek = line.key(4)?;
+    let mik = line.key(5)?;
+    let prop = line.number(6)?;
     Ok(Case {
         reading,
         component: ComponentId { kind, code },
@@ -46,8 +45,8 @@ fn case_of(line: &[u8]) -> Result<Case, Fault> {
 }
 
 // The octets at a place of a line.
-fn octets_at(heap: Global, line: &[u8], place: usize) -> anyhow::Result<Vec<u8>> {
-    match octets(heap, word_at(line, place))? {
+fn octets_at(heap: Global, line: Line<'_>, place: usize) -> anyhow::Result<Vec<u8>> {
+    match octets(heap, line.word(place))? {
         Some(octets) => Ok(octets),
         None => Err(anyhow!("there are no octets where they should be")),
     }
@@ -102,7 +101,7 @@ fn said(alike: bool) -> &'static str {
 }
 
 // Prints whether a case is built and read as the outside AES did.
-fn print_case(rt: &HostRuntime, number: u64, line: &[u8]) -> anyhow::Result<()> {
+fn print_case(rt: &HostRuntime, number: u64, line: Line<'_>) -> anyhow::Result<()> {
     let heap = rt.alloc();
     let case = match case_of(line) {
         Ok(case) => case,
@@ -130,7 +129,8 @@ pub fn print_cases(rt: &HostRuntime, file: &str) -> anyhow::Result<()> {
             continue;
         }
         number = number.wrapping_add(1);
-        print_case(rt, number, line.as_bytes())?;
+        let octets = line.as_bytes();
+        print_case(rt, number, Line { octets })?;
     }
     Ok(())
 }
