@@ -214,8 +214,8 @@ fn plain(line: Line<'_>) -> Result<Call, Fault>
     Ok(call)
 }
 
-#[tactic(auto, unfolding(crate::specs::Calls::called_by))]
 /// The call that the second word of a line begins.
+#[tactic(auto, unfolding(crate::specs::Calls::called_by))]
 pub fn read_call(line: Line<'_>) -> Result<Call, Fault>
     ensures { result ≡ called_by line.entry.octets.now }
 {

@@ -129,8 +129,8 @@ fn called(line: Line<'_>) -> Result<Statement, Fault>
     Ok(Statement::Calls { name, call })
 }
 
-#[tactic(auto, unfolding(crate::specs::Statements::declaration))]
 /// The declaration that the first word of a line begins; none, where it begins something else.
+#[tactic(auto, unfolding(crate::specs::Statements::declaration))]
 fn declaration(line: Line<'_>) -> Option<Result<Declaration, Fault>>
     ensures { result ≡ declaration line.entry.octets.now }
 {
@@ -142,8 +142,8 @@ fn declaration(line: Line<'_>) -> Option<Result<Declaration, Fault>>
     }
 }
 
-#[tactic(auto, unfolding(crate::specs::Statements::declaration, crate::specs::Statements::begun))]
 /// The statement that the first word of a line begins.
+#[tactic(auto, unfolding(crate::specs::Statements::declaration, crate::specs::Statements::begun))]
 fn begun(line: Line<'_>) -> Result<Statement, Fault>
     ensures { result ≡ begun line.entry.octets.now }
 {
@@ -153,8 +153,8 @@ fn begun(line: Line<'_>) -> Result<Statement, Fault>
     }
 }
 
-#[tactic(auto, unfolding(crate::specs::Statements::statement))]
 /// The statement of a line of text; none, where the line has no word.
+#[tactic(auto, unfolding(crate::specs::Statements::statement))]
 fn read_words(line: Line<'_>) -> Result<Option<Statement>, Fault>
     ensures { result ≡ statement line.entry.octets.now }
 {

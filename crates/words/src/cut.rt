@@ -50,8 +50,8 @@ fn split_at_blank(line: &[u8]) -> (&[u8], &[u8])
     line.split_at(end)
 }
 
-#[tactic(auto, unfolding(crate::specs::Words::word, crate::specs::Words::after))]
 /// The first word of a line, and what stands after it; the word is empty where the line has ended.
+#[tactic(auto, unfolding(crate::specs::Words::word, crate::specs::Words::after))]
 pub fn first_word(line: &[u8]) -> (&[u8], &[u8])
     ensures word { result.0.now ≡ word line.now }
     ensures rest { result.1.now ≡ after line.now }

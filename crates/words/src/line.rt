@@ -28,8 +28,8 @@ pub struct Line<'a> {
 }
 
 impl<'a> Line<'a> {
-    #[tactic(auto, using(crate::proofs::Cuts::from_more), unfolding(crate::specs::Words::word_at))]
     /// The word at a place; it is empty where the line has ended.
+    #[tactic(auto, using(crate::proofs::Cuts::from_more), unfolding(crate::specs::Words::word_at))]
     pub fn word(self, place: usize) -> &'a [u8]
         ensures { result.now ≡ word_at place self.entry.octets.now }
     {

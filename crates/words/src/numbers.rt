@@ -90,9 +90,9 @@ fn numeral(digits: &[u8], base: u32, limit: u64) -> Option<u64>
     Some(value)
 }
 
-#[tactic(auto, unfolding(crate::specs::Numbers::number))]
 /// The number of at most `limit` that a word stands for, decimal or `0x..`. A number as `{n}`
 /// writes it is read back.
+#[tactic(auto, unfolding(crate::specs::Numbers::number))]
 pub fn number(word: &[u8], limit: u64) -> Option<u64>
     ensures value { result ≡ number limit word.now }
     ensures reads_back { (n : ℕ) → n ≤ limit → word.now ≡ decimal n → result ≡ Some n }
@@ -103,8 +103,8 @@ pub fn number(word: &[u8], limit: u64) -> Option<u64>
     }
 }
 
-#[tactic(auto, unfolding(crate::specs::Numbers::key))]
 /// The key that a word of 32 hexadecimal digits stands for.
+#[tactic(auto, unfolding(crate::specs::Numbers::key))]
 pub fn key(word: &[u8]) -> Option<Key>
     ensures { result ≡ key word.now }
 {
@@ -126,8 +126,8 @@ fn hex_digit(octet: u8) -> Option<u8>
     Some(digit as u8)
 }
 
-#[tactic(auto, unfolding(crate::specs::Numbers::octets))]
 /// The octets that a word stands for: `-` for none, else pairs of hexadecimal digits.
+#[tactic(auto, unfolding(crate::specs::Numbers::octets))]
 pub fn octets(heap: Global, word: &[u8]) -> Result<Option<Vec<u8>>, AllocError>
     ensures { IfOk result (λ o. option_map vec_items o ≡ octets word.now) }
 {
@@ -149,8 +149,8 @@ pub fn octets(heap: Global, word: &[u8]) -> Result<Option<Vec<u8>>, AllocError>
     Ok(Some(read))
 }
 
-#[tactic(auto, unfolding(crate::specs::Numbers::answer_number))]
 /// The number N of a word `@N`, which stands for the octets of answer N.
+#[tactic(auto, unfolding(crate::specs::Numbers::answer_number))]
 pub fn answer_number(word: &[u8]) -> Option<u64>
     ensures { result ≡ answer_number word.now }
 {
