@@ -77,8 +77,13 @@ impl Gateway {
     ) -> Result<(), Refusal>
         ensures { Installed delivered_ciphers delivered_tags reading association self.old.station self.new.station (contents_of registers.old) (contents_of registers.new) result }
     {
-        self.station
-            .install(registers, &self.banks, reading, association)
+        self.station.install(
+            registers,
+            &self.banks.ciphers,
+            &self.banks.tags,
+            reading,
+            association,
+        )
     }
 
     // Makes a message of a component for a network. Under MEA 1 and MIA 1 the octets are those of AES in counter mode and CBC-MAC,

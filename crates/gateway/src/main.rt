@@ -8,12 +8,12 @@ mod run;
 mod site;
 
 use run::{Stopped, serve};
-use site::Memory;
+use site::memory_of_both;
 use std::process::ExitCode;
 
 /// Lends each station its memory, and runs.
 fn gateway(rt: &HostRuntime) -> Result<(), Stopped> {
-    let mut memory = match Memory::of_both(rt.alloc()) {
+    let mut memory = match memory_of_both(rt.alloc()) {
         Ok(memory) => memory,
         Err(error) => {
             let _ = eprintln!(rt; "gateway: there is no memory for the places: {error}");

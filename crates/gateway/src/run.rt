@@ -1,11 +1,12 @@
 // A run: what each statement of the files does, and what stops it.
 use crate::answers::{Refused, Reply, Shown};
-use crate::site::{Memory, Room, Site};
+use crate::site::{Site, rooms};
 use calls::Call;
 use complaints::Complaint;
 use desk::answers::Answers;
 use desk::{Declared, Desk, DeskFault};
 use lines::LineCutter;
+use memory::{Memory, Room};
 use rules::refusal::Refusal;
 use rules::settings::Settings;
 use statements::both::Both;
@@ -382,6 +383,6 @@ impl<'a> Run<'a> {
 
 /// Serves two stations in the memory that they are lent.
 pub fn serve(rt: &HostRuntime, memory: &mut Both<Memory>) -> Result<(), Stopped> {
-    let mut run = Run::new(rt.alloc(), Memory::rooms(memory));
+    let mut run = Run::new(rt.alloc(), rooms(memory));
     run.serve(rt)
 }

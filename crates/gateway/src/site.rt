@@ -3,31 +3,23 @@ use crate::answers::{Outcome, Reply};
 use calls::{Algorithms, Call, Lifetime, Parties};
 use delivery::Gateway;
 use desk::Declared;
+use memory::{Memory, Room};
 use rules::component::ComponentId;
 use rules::refusal::Refusal;
 use rules::settings::Settings;
 use statements::both::Both;
 use statements::declaration::Places;
-use station::records::{HeardMessage, Policy, SecurityAssociation};
+use station::records::SecurityAssociation;
 use station::registers::Registers;
 use std::alloc::{AllocError, Global};
 use std::mem;
 
-/// The memory of one station: as many places as it may use.
-#[derive(Drop)]
-pub struct Memory {
-    policies: Vec<Option<Policy>>,
-    associations: Vec<Option<SecurityAssociation>>,
-    heard: Vec<Option<HeardMessage>>,
-}
-
-/// The places that one station may use.
-#[derive(Drop)]
-pub struct Room<'a> {
-    policies: &'a mut [Option<Policy>],
-    associations: &'a mut [Option<SecurityAssociation>],
-    heard: &'a mut [Option<HeardMessage>],
-}
+/// As many places as a station may use.
+const MOST: memory::Places = memory::Places {
+    policies: 64,
+    associations: 256,
+    heard: 4096,
+};
 
 // The registers stand beside the gateway: no value that holds a `&mut` may be dropped where it is
 // there in one case alone, as in an `Option`.
@@ -39,39 +31,19 @@ pub struct Site<'a> {
     gateway: Option<Gateway>,
 }
 
-impl Memory {
-    /// Empty places for each station.
-    pub fn of_both(heap: Global) -> Result<Both<Memory>, AllocError> {
-        Ok(Both {
-            a: Memory::new(heap)?,
-            b: Memory::new(heap)?,
-        })
-    }
+/// Empty places for each station.
+pub fn memory_of_both(heap: Global) -> Result<Both<Memory>, AllocError> {
+    Ok(Both {
+        a: Memory::new(heap, MOST)?,
+        b: Memory::new(heap, MOST)?,
+    })
+}
 
-    /// What each station may use.
-    pub fn rooms(memory: &mut Both<Memory>) -> Both<Room<'_>> {
-        Both {
-            a: memory.a.room(),
-            b: memory.b.room(),
-        }
-    }
-
-    /// Empty places.
-    fn new(heap: Global) -> Result<Memory, AllocError> {
-        Ok(Memory {
-            policies: vec![in heap; None; 64]?,
-            associations: vec![in heap; None; 256]?,
-            heard: vec![in heap; None; 4096]?,
-        })
-    }
-
-    /// All of them.
-    fn room(&mut self) -> Room<'_> {
-        Room {
-            policies: self.policies.as_mut_slice(),
-            associations: self.associations.as_mut_slice(),
-            heard: self.heard.as_mut_slice(),
-        }
+/// What each station may use.
+pub fn rooms(memory: &mut Both<Memory>) -> Both<Room<'_>> {
+    Both {
+        a: memory.a.room(),
+        b: memory.b.room(),
     }
 }
 
@@ -81,18 +53,16 @@ fn first<R>(places: &mut [Option<R>], count: u64) -> &mut [Option<R>] {
     &mut places[..count]
 }
 
-impl<'a> Room<'a> {
-    /// Takes all places, and gives empty registers in the first ones, as many as are declared.
-    fn furnish(&mut self, places: Places) -> Registers<'a> {
-        let policies = mem::replace(&mut self.policies, &mut []);
-        let associations = mem::replace(&mut self.associations, &mut []);
-        let heard = mem::replace(&mut self.heard, &mut []);
-        Registers::new(
-            first(policies, places.policies),
-            first(associations, places.associations),
-            first(heard, places.heard),
-        )
-    }
+/// Takes all places of a room, and gives empty registers in the first ones, as many as are declared.
+fn furnish<'a>(room: &mut Room<'a>, places: Places) -> Registers<'a> {
+    let policies = mem::replace(&mut room.policies, &mut []);
+    let associations = mem::replace(&mut room.associations, &mut []);
+    let heard = mem::replace(&mut room.heard, &mut []);
+    Registers::new(
+        first(policies, places.policies),
+        first(associations, places.associations),
+        first(heard, places.heard),
+    )
 }
 
 impl<'a> Site<'a> {
@@ -114,7 +84,7 @@ impl<'a> Site<'a> {
     pub fn make(&mut self, declared: Declared) -> Result<(), Refusal> {
         let Declared { draft, places } = declared;
         let settings = Settings::new(draft)?;
-        let _ = mem::replace(&mut self.registers, self.room.furnish(places));
+        let _ = mem::replace(&mut self.registers, furnish(&mut self.room, places));
         self.gateway = Some(Gateway::new(settings));
         Ok(())
     }

@@ -11,7 +11,7 @@ use Rattle.rehearsal.specs.declared.log.Answer.{Answer}
 use Rattle.rehearsal.specs.declared.log.Line.{Line}
 use Rattle.rehearsal.specs.declared.log.Side.{Side}
 use Rattle.rehearsal.specs.declared.log.Side.TheVariants.{A, B}
-use Rattle.rehearsal.specs.declared.memory.Places.{Places}
+use Rattle.memory.specs.declared.Places.{Places}
 use Rattle.rehearsal.specs.Rehearsed.{by_side, new_station, Rehearsed}
 use Rattle.rehearsal.specs.Runs.{Turn, turns, Both, both_of, Runs}
 use Rattle.rehearsal.proofs.Keeps.{Kept, at}

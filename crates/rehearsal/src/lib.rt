@@ -2,7 +2,6 @@
 #![tactic(auto)]
 
 pub mod log;
-mod memory;
 pub mod rehearse;
 mod site;
 mod sites;

@@ -4,13 +4,12 @@ ghost use Rattle.banks.specs.Banks.{MeanTheSame};
 ghost use Rattle.rehearsal.specs.Rehearsed.{by_side, Rehearsed};
 
 use crate::log::{Answer, Line};
-use crate::memory::Memory;
-pub use crate::memory::Places;
 use crate::site::Site;
 use crate::sites::Sites;
 use banks::Banks;
 use banks::cipher::CipherBank;
 use banks::tag::TagBank;
+use memory::{Memory, Places};
 use rules::settings::Settings;
 use station::station::Station;
 use std::alloc::{AllocError, Global};

@@ -88,8 +88,13 @@ impl Site<'_> {
         ensures { InstallStep (C.CipherBank.means banks.now.ciphers) (T.TagBank.means banks.now.tags) reading association self.old.station self.new.station (contents_of self.old.registers) (contents_of self.new.registers) result }
     {
         kept(
-            self.station
-                .install(&mut self.registers, banks, reading, association),
+            self.station.install(
+                &mut self.registers,
+                &banks.ciphers,
+                &banks.tags,
+                reading,
+                association,
+            ),
         )
     }
 

@@ -5,14 +5,15 @@ ghost use Rattle.statements.specs.Declarations.{subject};
 use std::fmt;
 
 /// One of the two stations of a run.
-#[derive(Clone, Copy)]
+#[derive(Clone, Copy, Debug, PartialEq, Eq)]
 pub enum Name {
     A,
     B,
 }
 
+// As written: the language knows of no memory, whose `Places` are of its own width.
 /// How many records of each kind a station has room for.
-#[derive(Clone, Copy)]
+#[derive(Clone, Copy, Debug, PartialEq, Eq)]
 pub struct Places {
     pub policies: u64,
     pub associations: u64,

@@ -9,7 +9,6 @@ ghost use Rattle.station.specs.States.{contents_of};
 
 use crate::records::{AssociationKey, Policy, SecurityAssociation, Stance};
 use crate::registers::Registers;
-use banks::Banks;
 use banks::cipher::CipherBank;
 use banks::tag::TagBank;
 use register::{Ending, Keyed};
@@ -81,9 +80,10 @@ impl Station {
     ) -> Result<(), Refusal>
         ensures { Revoked destination spi (contents_of registers.old) (contents_of registers.new) result }
     {
+        let key = AssociationKey { destination, spi };
         registers
             .associations
-            .remove(AssociationKey { destination, spi })
+            .remove(key)
             .ok_or(Refusal::KeyNotHeld)?;
         Ok(())
     }
@@ -101,11 +101,12 @@ impl Station {
     // The fields of an association, in their order.
     fn fields<C: CipherBank, T: TagBank>(
         &self,
-        banks: &Banks<C, T>,
+        ciphers: &C,
+        tags: &T,
         reading: u64,
         a: &SecurityAssociation,
     ) -> Result<(), Refusal>
-        ensures { result ≡ decided (field_checks self.now.settings.own (C.CipherBank.means banks.now.ciphers) (T.TagBank.means banks.now.tags) reading a.now) tt }
+        ensures { result ≡ decided (field_checks self.now.settings.own (C.CipherBank.means ciphers.now) (T.TagBank.means tags.now) reading a.now) tt }
     {
         let own = self.settings.own();
         let wrong = |field| Err(Refusal::WrongAssociation { field });
@@ -115,10 +116,10 @@ impl Station {
         if a.destination >= NETWORKS {
             return wrong(AssociationField::Destination);
         }
-        if !banks.ciphers.knows(a.mea) {
+        if !ciphers.knows(a.mea) {
             return wrong(AssociationField::Mea);
         }
-        if !banks.tags.knows(a.mia) {
+        if !tags.knows(a.mia) {
             return wrong(AssociationField::Mia);
         }
         if a.soft > a.hard {
@@ -131,17 +132,19 @@ impl Station {
     }
 
     // Adds a security association.
+    // The banks are lent apart: it only asks what they know, and who has them by `&` could not lend both together.
     pub fn install<C: CipherBank, T: TagBank>(
         &mut self,
         registers: &mut Registers<'_>,
-        banks: &Banks<C, T>,
+        ciphers: &C,
+        tags: &T,
         reading: u64,
         association: SecurityAssociation,
     ) -> Result<(), Refusal>
-        ensures { Installed (C.CipherBank.means banks.now.ciphers) (T.TagBank.means banks.now.tags) reading association self.old self.new (contents_of registers.old) (contents_of registers.new) result }
+        ensures { Installed (C.CipherBank.means ciphers.now) (T.TagBank.means tags.now) reading association self.old self.new (contents_of registers.old) (contents_of registers.new) result }
     {
         self.clock(reading)?;
-        self.fields(banks, reading, &association)?;
+        self.fields(ciphers, tags, reading, &association)?;
         place_for(registers, reading, &association)?;
         let _ = registers.associations.put_at(association, reading);
         self.latest = reading;

@@ -36,7 +36,7 @@ fn lent_banks(rt: HostRuntime) -> Result<(), Fail> {
     let mut output = [0; 25];
     assert_eq!(rt; told(station.admit(&mut registers, OTHER, 2)), (0, 0));
     assert_eq!(rt;
-        told(station.install(&mut registers, &banks, 1_000, under)),
+        told(station.install(&mut registers, &banks.ciphers, &banks.tags, 1_000, under)),
         (0, 0)
     );
     let invoke = ComponentId { kind: 1, code: 37 };

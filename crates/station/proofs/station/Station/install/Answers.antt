@@ -8,16 +8,16 @@ use Rattle.station.proofs.station.Station.install.Goals as goal
 
 pub returns-in_err-fields : goal.returns-in_err-fields
 returns-in_err-fields g c =
-    let m = g.C.CipherBank.means c.args.banks.now.ciphers in
-    let t = g.T.TagBank.means c.args.banks.now.tags in
+    let m = g.C.CipherBank.means c.args.ciphers.now in
+    let t = g.T.TagBank.means c.args.tags.now in
     let before = contents_of c.args.registers.now in
     let p = err_from_is_err_and c.from_residual-in_err-fields.result c.from_residual-in_err-fields.ensures.1 in
     refuses m t c.args.reading c.args.association c.args.self.now before _ _ (p.1 ∙ ap Err p.2) (refuses_fields m t c.args.reading c.args.association c.args.self.now before c.in_ok-clock.ensures _ c.in_err-fields.ensures)
 
 pub returns : goal.returns
 returns g c =
-    let m = g.C.CipherBank.means c.args.banks.now.ciphers in
-    let t = g.T.TagBank.means c.args.banks.now.tags in
+    let m = g.C.CipherBank.means c.args.ciphers.now in
+    let t = g.T.TagBank.means c.args.tags.now in
     let before = contents_of c.args.registers.now in
     let clock = c.in_ok-clock.ensures in
     let fields = c.in_ok-fields.ensures in
