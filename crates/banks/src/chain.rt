@@ -6,7 +6,7 @@ ghost use Rattle.banks.specs.Running.{ChainState, fresh, absorbed, ended};
 use aes::cipher::{RoundKeys, encrypt};
 use std::marker::Model;
 
-// The chain's value with the octets of an unfinished block added to it, and how many those are.
+// The chain's value with the octets of an unfinished block added to it, and how many those are: a MAC has no memory but this.
 #[derive(Drop)]
 pub(crate) struct Chain {
     value: [u8; 16],

@@ -3,7 +3,7 @@ use crate::cipher::CipherBank;
 use crate::tag::TagBank;
 use keys::{Iv, Key};
 
-// A bank of either sort that somebody else owns: it means what that one means.
+// A bank of either sort that somebody else owns: it means what that one means. An impl for each trait, as of `Pair`.
 #[derive(Drop)]
 pub struct Lent<'a, B>(pub &'a mut B);
 

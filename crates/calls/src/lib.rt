@@ -9,7 +9,7 @@ use words::fault::{Expected, Fault};
 use words::line::Line;
 
 /// Who sends under an association, to whom, and by which SPI.
-#[derive(Clone, Copy)]
+#[derive(Clone, Copy, Debug, PartialEq, Eq)]
 pub struct Parties {
     pub sender: u32,
     pub destination: u32,
@@ -26,7 +26,7 @@ pub struct Algorithms {
 }
 
 /// The profile of an association, and how long it is used.
-#[derive(Clone, Copy)]
+#[derive(Clone, Copy, Debug, PartialEq, Eq)]
 pub struct Lifetime {
     pub ppi: u16,
     pub soft: u64,

@@ -44,7 +44,7 @@ impl Gateway {
         }
     }
 
-    // Sets the policy for a network: stance 0 removes it, 1 is plain, 2 is MAPsec.
+    // Sets the policy for a network: stance 0 removes it, 1 is plain, 2 is MAPsec. A number, as the station takes it.
     pub fn admit(
         &self,
         registers: &mut Registers<'_>,

@@ -24,7 +24,7 @@ pub struct Declared {
 }
 
 /// Why a declaration cannot be entered.
-#[derive(Clone, Copy)]
+#[derive(Clone, Copy, Debug, PartialEq, Eq)]
 pub enum DeskFault {
     DeclaredTwice(Name),
     NotDeclared(Name),

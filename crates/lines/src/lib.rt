@@ -12,7 +12,7 @@ use std::fmt;
 pub const LIMIT: usize = 8192;
 
 /// Why a line cannot be gathered.
-#[derive(Clone, Copy)]
+#[derive(Clone, Copy, Debug, PartialEq, Eq)]
 pub enum LineFault {
     TooLong,
     NoMemory,

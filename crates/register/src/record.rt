@@ -2,7 +2,7 @@
 ghost use Rattle.std.specs.Prelude.{◌≡◌, ℕ};
 
 // A record with a key. Two keys are the same where `==` says so: `Eq` shows that sameness is reflexive,
-// symmetric and transitive. Same keys need not be equal.
+// symmetric and transitive. It may hold of keys that differ in what `==` does not look at.
 pub trait Keyed: Copy {
     type Key: Copy + Eq;
 

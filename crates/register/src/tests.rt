@@ -44,7 +44,7 @@ fn booked(row: u8, number: u8, guest: u8, until: u64) -> Booking {
     }
 }
 
-// The guest who booked, 0 where there is none.
+// The guest who booked, 0 where there is none: guests are counted from 1.
 fn guest(booking: Option<Booking>) -> u8 {
     match booking {
         Some(b) => b.guest,

@@ -4,14 +4,14 @@ use rules::protection::ProtectionMode;
 use rules::refusal::Refusal;
 use station::records::SecurityAssociation;
 
-// The two stations of a log. The command language has a `Name` of its own for them: it knows of no log.
+// The two stations of a log. The command language has a `Name` of its own for its two: a crate that both saw would hold two words.
 #[derive(Clone, Copy, Debug, PartialEq, Eq)]
 pub enum Side {
     A,
     B,
 }
 
-// A call at a station. `room` is the length of the output that it is lent.
+// A call at a station, with what the station's own call takes. `room` is the length of the output that it is lent.
 #[derive(Clone, Copy)]
 pub enum Call<'a> {
     Admit {
@@ -55,7 +55,7 @@ pub struct Line<'a> {
     pub call: Call<'a>,
 }
 
-// The answer to a line; `report` is what closing the slip answered, 0 where there was none.
+// The answer to a line; `report` is what closing the slip answered, a number as `close` gives it: 0 where nothing is reported.
 // Five cases side by side, and no `Result` within: the laws name each of them at one depth.
 #[derive(Drop)]
 pub enum Answer {

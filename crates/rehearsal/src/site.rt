@@ -25,6 +25,7 @@ pub(crate) struct Site<'r> {
     pub(crate) registers: Registers<'r>,
 }
 
+// The answers, by name and not by `From`: those of protect, receive and plain take an output or a report beside the outcome.
 // The answer of admit, install and revoke.
 fn kept(outcome: Result<(), Refusal>) -> Answer
     ensures { result ≡ kept_answer outcome }

@@ -13,7 +13,7 @@ pub struct ProfileLine {
     pub level: u8,
 }
 
-// The level of the first line with the PPI and the code.
+// The level of the first line with the PPI and the code: two of its three fields.
 fn level_in(lines: &[ProfileLine], ppi: u16, code: u8) -> Option<u8>
     ensures { result ≡ level_in ppi code lines.now }
 {

@@ -13,6 +13,7 @@ pub enum ProtectionMode {
 }
 
 impl ProtectionMode {
+    // By name: it is printed as the mode's number, and `u8::from` would not say of what.
     pub fn number(self) -> u8
         ensures { result ≡ mode_number self }
     {

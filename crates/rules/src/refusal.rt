@@ -18,6 +18,7 @@ pub enum Setting {
 }
 
 // Its position among the settings, from 1 to 7.
+// An impl for each of the three enums: `as` names the type whose number it takes.
 impl From<Setting> for u8 {
     ghost from_gives = { λ setting position. position ≡ setting_position setting };
 

@@ -41,7 +41,7 @@ fn with_lists(listed: Vec<ComponentId>, profile: Vec<ProfileLine>) -> Draft {
     }
 }
 
-// The place of the refusal, 0 where the settings are taken.
+// The place of the refusal, 0 where the settings are taken, so that a case is one row of numbers.
 fn place(answer: Result<Settings, Refusal>) -> usize {
     match answer {
         Ok(_) => 0,

@@ -22,7 +22,7 @@ pub struct Places {
 
 // Kinds, codes and levels are numbers as they are written: a wrong one is refused with the settings.
 /// What is declared of a station.
-#[derive(Clone, Copy)]
+#[derive(Clone, Copy, Debug, PartialEq, Eq)]
 pub enum Declaration {
     Station {
         name: Name,

@@ -18,6 +18,7 @@ pub enum Statement {
     Calls { name: Name, call: Call },
 }
 
+// By name and not by `TryFrom`: its fault needs the place of the word, which the caller has.
 /// The station that a word names.
 fn station_name(word: &[u8]) -> Option<Name>
     ensures { result ≡ name_of word.now }

@@ -3,11 +3,19 @@ use Rattle.std.specs.Prelude.{ℕ, Bool, true, false, not, List, [], ◌∷◌, 
 use Rattle.rules.specs.Components.{kind_of}
 use Rattle.rules.specs.declared.component.ComponentId.{ComponentId}
 use Rattle.rules.specs.declared.refusal.Refusal.{Refusal}
-use Rattle.rules.specs.declared.refusal.Refusal.TheVariants.{UnknownKind, CleartextTooLong}
+use Rattle.rules.specs.declared.refusal.Refusal.TheVariants.{UnknownKind, CleartextTooLong, OutputTooShort}
 use Rattle.station.specs.declared.records.Policy.{Policy}
 use Rattle.station.specs.declared.records.Stance.{Stance}
 use Rattle.station.specs.declared.records.Stance.TheVariants.{Plain, Mapsec}
 use Rattle.station.specs.declared.records.SecurityAssociation.{SecurityAssociation}
+
+-- the output has room for so many octets
+abbrev pub fit_checks : ℕ → ℕ → List (Bool × Refusal)
+fit_checks needed output = (nat_lt output needed, OutputTooShort needed) ∷ []
+
+-- a cleartext that begins at a place has 1,024 octets at most
+abbrev pub length_checks : ℕ → ℕ → List (Bool × Refusal)
+length_checks place size = (nat_lt 1024 size, CleartextTooLong place) ∷ []
 
 -- a component that was handed in: of a known kind, and of 1,024 octets at most
 abbrev pub form_checks : ComponentId → ℕ → List (Bool × Refusal)

@@ -3,7 +3,7 @@ ghost use Rattle.std.specs.Prelude.{◌≡◌, ◌≤◌, not, length};
 ghost use Rattle.banks.specs.Banks.{MeanTheSame};
 ghost use Rattle.rules.specs.Checks.{decided};
 ghost use Rattle.rules.specs.declared.refusal.Refusal.TheVariants.{NoPolicy};
-ghost use Rattle.station.specs.Forms.{form_checks};
+ghost use Rattle.station.specs.Forms.{fit_checks, length_checks, form_checks};
 ghost use Rattle.station.specs.Protect.{room_checks, protected_at as count_at, Sends, Protected};
 ghost use Rattle.station.specs.Seal.{message_length as length_of};
 ghost use Rattle.station.specs.States.{contents_of};
@@ -31,6 +31,26 @@ pub enum Sending {
     Sent { mode: ProtectionMode, length: usize },
 }
 
+// The output has room for so many octets.
+pub(crate) fn fits(needed: usize, output: usize) -> Result<(), Refusal>
+    ensures { result ≡ decided (fit_checks needed output) tt }
+{
+    if output < needed {
+        return Err(Refusal::OutputTooShort { needed });
+    }
+    Ok(())
+}
+
+// A cleartext, which begins at a place, is not too long.
+pub(crate) fn short(length: usize, place: usize) -> Result<(), Refusal>
+    ensures { result ≡ decided (length_checks place length) tt }
+{
+    if length > LONGEST_CLEARTEXT {
+        return Err(Refusal::CleartextTooLong { place });
+    }
+    Ok(())
+}
+
 // A component that is handed in is of a known kind, and not too long.
 pub(crate) fn form(component: ComponentId, length: usize) -> Result<(), Refusal>
     ensures { result ≡ decided (form_checks component length) tt }
@@ -38,10 +58,7 @@ pub(crate) fn form(component: ComponentId, length: usize) -> Result<(), Refusal>
     if component.known_kind().is_none() {
         return Err(Refusal::UnknownKind { place: 0 });
     }
-    if length > LONGEST_CLEARTEXT {
-        return Err(Refusal::CleartextTooLong { place: 0 });
-    }
-    Ok(())
+    short(length, 0)
 }
 
 // How many octets a message of a mode has.
@@ -60,9 +77,7 @@ fn message_length(mode: ProtectionMode, cleartext: usize) -> usize
 fn room(mode: ProtectionMode, needed: usize, output: usize, count: u32) -> Result<(), Refusal>
     ensures { result ≡ decided (room_checks mode needed output count) tt }
 {
-    if output < needed {
-        return Err(Refusal::OutputTooShort { needed });
-    }
+    fits(needed, output)?;
     if mode.protects() & (count >= PROTECTED_AT_ONCE) {
         return Err(Refusal::TickFull);
     }

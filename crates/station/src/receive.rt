@@ -11,7 +11,7 @@ ghost use Rattle.station.specs.Plain.{TakenPlain};
 ghost use Rattle.station.specs.Slips.{refusal_number};
 ghost use Rattle.station.specs.States.{contents_of};
 
-use crate::protect::form;
+use crate::protect::{fits, form, short};
 use crate::records::{AssociationKey, HeardKey, HeardMessage, SecurityAssociation, Stance};
 use crate::registers::Registers;
 use crate::seal::turn;
@@ -20,7 +20,6 @@ use crate::station::Station;
 use banks::Banks;
 use banks::cipher::CipherBank;
 use banks::tag::TagBank;
-use rules::bounds::LONGEST_CLEARTEXT;
 use rules::component::ComponentId;
 use rules::message::{
     IvFields, Message, OPEN_HEADER, SEALED_HEADER, SealedMessage, SecurityHeader, read,
@@ -58,9 +57,7 @@ fn room(
 ) -> Result<(), Refusal>
     ensures { result ≡ decided (room_checks registers.now.heard.places.now reading needed output) tt }
 {
-    if output < needed {
-        return Err(Refusal::OutputTooShort { needed });
-    }
+    fits(needed, output)?;
     if !registers.heard.has_room_at(reading) {
         return Err(Refusal::HeardFull {
             capacity: registers.heard.capacity(),
@@ -70,7 +67,7 @@ fn room(
 }
 
 impl Station {
-    // The association that a network sends under to this station, with an SPI.
+    // The association that a network sends under to this station, with an SPI. What the call takes goes on one by one.
     fn association_from(
         &self,
         registers: &Registers<'_>,
@@ -118,16 +115,11 @@ impl Station {
         ensures { result ≡ decided (open_checks self.now.settings component payload.now output) tt }
     {
         let needed = payload.len();
-        if needed > LONGEST_CLEARTEXT {
-            return Err(Refusal::CleartextTooLong { place: OPEN_HEADER });
-        }
+        short(needed, OPEN_HEADER)?;
         if self.settings.lists(component) & !self.settings.fallback() {
             return Err(Refusal::ListedUnprotected { place: 4 });
         }
-        if output < needed {
-            return Err(Refusal::OutputTooShort { needed });
-        }
-        Ok(())
+        fits(needed, output)
     }
 
     // A sealed message: fresh, rightly tagged, and not heard before. It answers the last tick at which it is still fresh.
@@ -203,11 +195,7 @@ impl Station {
     {
         let payload = message.payload.octets;
         let needed = payload.len();
-        if needed > LONGEST_CLEARTEXT {
-            return Err(Refusal::CleartextTooLong {
-                place: SEALED_HEADER,
-            });
-        }
+        short(needed, SEALED_HEADER)?;
         let last = self.fresh(
             registers,
             &mut banks.tags,
@@ -225,6 +213,7 @@ impl Station {
             handed.mode,
             &mut output[0..needed],
         );
+        // It finds a place: `room` has seen one.
         let _ = registers.heard.put_at(HeardMessage { key, last }, reading);
         self.latest = reading;
         Ok(handed)

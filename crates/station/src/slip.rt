@@ -5,7 +5,7 @@ ghost use Rattle.station.specs.Slips.{refusal_number, reported};
 use rules::refusal::Refusal;
 
 // A slip stands for an answer that has yet to be dealt with: its refusal's number, 0 for an outcome, and whether the dialogue waits.
-// It can be neither copied nor dropped, so each is closed, and once. Plain numbers, 0 for none: the slips of all answers are of one type.
+// It can be neither copied nor dropped, so each is closed, and once. It holds plain numbers, 0 for no refusal: a slip is the same whatever was answered.
 pub struct Slip {
     number: u8,
     waiting: bool,

@@ -39,7 +39,7 @@ impl Station {
     }
 
     // Sets the policy for a network: stance 0 removes it, 1 is plain, 2 is MAPsec.
-    // The stance is a number as the operator gives it: a wrong one is refused, so no type of three could be asked for.
+    // The stance is a number, as the operator gives it: a wrong one is refused by 33.
     pub fn admit(
         &self,
         registers: &mut Registers<'_>,
@@ -146,6 +146,7 @@ impl Station {
         self.clock(reading)?;
         self.fields(ciphers, tags, reading, &association)?;
         place_for(registers, reading, &association)?;
+        // It finds a place: `place_for` has seen one.
         let _ = registers.associations.put_at(association, reading);
         self.latest = reading;
         Ok(())

@@ -1,4 +1,4 @@
-// Octets as pairs of hex digits, `-` for none.
+// Octets as pairs of hex digits, `-` for none, by the kit's crate: this program sees AES and the banks, and not the command language.
 ghost use Rattle.std.specs.Prelude.{◌≡◌, ◌≢◌, ◌⊎◌, [], IfOk, IfErr, codes, string_bytes};
 ghost use Rattle.hex.specs.Hex.{decode_of};
 ghost use Rattle.hex.specs.declared.error.FromHexError.TheVariants.{OutOfMemory};

@@ -5,7 +5,7 @@ ghost use Rattle.words.specs.Reading.{spelled};
 use std::fmt;
 
 /// The words that name a field of a statement.
-#[derive(Clone, Copy)]
+#[derive(Clone, Copy, Debug, PartialEq, Eq)]
 pub enum Keyword {
     Own,
     Ne,
@@ -30,7 +30,7 @@ impl Keyword {
 }
 
 /// What a place of a line should hold.
-#[derive(Clone, Copy)]
+#[derive(Clone, Copy, Debug, PartialEq, Eq)]
 pub enum Expected {
     /// Octets that are UTF-8.
     Text,
@@ -54,7 +54,7 @@ pub enum Expected {
 }
 
 /// The word at a place of a line, counted from 0, is not what was expected there.
-#[derive(Clone, Copy)]
+#[derive(Clone, Copy, Debug, PartialEq, Eq)]
 pub struct Fault {
     pub place: usize,
     pub expected: Expected,

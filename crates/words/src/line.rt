@@ -10,6 +10,7 @@ use crate::fault::{Expected, Fault, Keyword};
 use crate::numbers::{Unsigned, key, number};
 use keys::Key;
 
+// By name: `bool` is no type of ours to convert to.
 /// What `yes` and `no` stand for.
 fn yes_or_no(word: &[u8]) -> Option<bool>
     ensures { result ≡ flag_of word.now }
@@ -109,6 +110,7 @@ impl<'a> Line<'a> {
         }
     }
 
+    // `field` and `switch` each end in a reader of their own: a function over both would take it as a closure.
     /// A keyword at a place, and the number of 64 bits after it.
     pub fn field(self, place: usize, keyword: Keyword) -> Result<u64, Fault>
         ensures { result ≡ field_at keyword place self.entry.octets.now }

@@ -21,6 +21,7 @@ pub trait Unsigned: Copy {
         ensures { value result ≡ number };
 }
 
+// An impl for each width: `as` names the type that it narrows to.
 impl Unsigned for u8 {
     const LIMIT: u64 = u8::MAX as u64;
 
@@ -138,6 +139,7 @@ pub fn octets(heap: Global, word: &[u8]) -> Result<Option<Vec<u8>>, AllocError>
     if word.is_empty() || word.len() % 2 != 0 {
         return Ok(None);
     }
+    // Two digits at a time, by a pattern: no place is counted.
     let mut left = word;
     while let [high, low, rest @ ..] = left {
         let (Some(high), Some(low)) = (hex_digit(*high), hex_digit(*low)) else {
