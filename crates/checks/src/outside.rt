@@ -1,7 +1,7 @@
 // Messages that an outside AES made: A has to build the same octets, and B has to read them.
 // A line of the file is READING SPI KIND CODE MEK MIK PROP CLEARTEXT MESSAGE, numbers and octets as in the command language.
 use crate::setup::{INVOKE, answers, association, beginning, protects, receives};
-use anyhow::anyhow;
+use anyhow::{Context, anyhow};
 use rehearsal::log::Answer;
 use rules::component::ComponentId;
 use station::records::SecurityAssociation;
@@ -39,7 +39,7 @@ fn case_of(line: Line<'_>) -> Result<Case, Fault> {
 
 // The octets at a place of a line.
 fn octets_at(heap: Global, line: Line<'_>, place: usize) -> anyhow::Result<Vec<u8>> {
-    octets(heap, line.word(place))?.ok_or(anyhow!("there are no octets where they should be"))
+    octets(heap, line.word(place))?.context("there are no octets where they should be")
 }
 
 // What the stations answer to a case: the last two lines are the protect and the receive.

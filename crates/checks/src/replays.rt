@@ -1,17 +1,13 @@
 // Messages that come again, and a memory that is full.
 use crate::setup::{INVOKE, answers, association, beginning, protects, receives};
 use anyhow::anyhow;
-use keys::Key;
+use cases::KEY;
 use rehearsal::log::{Answer, Line};
 use std::alloc::Global;
 
 // The lines before the cases, at reading 900.
 fn start<'a>(heap: Global) -> anyhow::Result<Vec<Line<'a>>> {
-    let key = Key {
-        high: 0x0011223344556677,
-        low: 0x8899aabbccddeeff,
-    };
-    beginning(heap, 900, association(4, key, key, 900))
+    beginning(heap, 900, association(4, KEY, KEY, 900))
 }
 
 // The message that A makes of a cleartext at a reading.

@@ -41,16 +41,15 @@ pub fn association(
     reading: u64,
 ) -> SecurityAssociation {
     SecurityAssociation {
-        sender: NETWORK_A,
-        destination: NETWORK_B,
-        spi,
-        mea: 1,
         cipher_key,
-        mia: 1,
         integrity_key,
-        ppi: 7,
-        soft: reading,
-        hard: reading.saturating_add(1_000),
+        ..cases::association(
+            NETWORK_A,
+            NETWORK_B,
+            spi,
+            reading,
+            reading.saturating_add(1_000),
+        )
     }
 }
 

@@ -21,11 +21,21 @@ pub struct Reply {
     pub closed: Option<u8>,
 }
 
-/// A call without a slip: what it did, or why it was refused.
-impl From<Result<Outcome, Refusal>> for Reply {
-    fn from(outcome: Result<Outcome, Refusal>) -> Reply {
+/// A call that only does something.
+impl From<Result<(), Refusal>> for Reply {
+    fn from(outcome: Result<(), Refusal>) -> Reply {
         Reply {
-            outcome,
+            outcome: outcome.map(|()| Outcome::Done),
+            closed: None,
+        }
+    }
+}
+
+/// A component that was to be sent.
+impl From<Result<Sending, Refusal>> for Reply {
+    fn from(outcome: Result<Sending, Refusal>) -> Reply {
+        Reply {
+            outcome: outcome.map(Outcome::Sending),
             closed: None,
         }
     }

@@ -27,6 +27,7 @@ const STANDARD_INPUT: &str = "standard input";
 #[derive(Drop)]
 pub struct Stopped;
 
+// Where a line stands, without its octets: a file that cannot be read on has none to name.
 /// A line of a file, counted from 1.
 #[derive(Clone, Copy)]
 struct At<'f> {
@@ -160,10 +161,12 @@ impl<'a> Run<'a> {
 
     /// The octets that an answer gave, once more.
     fn octets_again(&self, heap: Global, answer: u64) -> Result<Option<Vec<u8>>, AllocError> {
-        match self.answers.octets(answer) {
-            Some(octets) => Ok(Some(Vec::from_slice(heap, octets)?)),
-            None => Ok(None),
-        }
+        let octets = self.answers.octets(answer);
+        Ok(
+            octets
+                .map(|octets| Vec::from_slice(heap, octets))
+                .transpose()?,
+        )
     }
 
     /// The octets that a call takes: as they are written, or those of an answer above.
@@ -321,6 +324,7 @@ impl<'a> Run<'a> {
     ) -> Result<(), Stopped> {
         let mut lines = LineCutter::new(rt.alloc());
         let mut chunk = [0u8; 4096];
+        // To the end of the source, which no number bounds: a `for` that is longer than any input.
         for _ in 0..u64::MAX {
             let count = match source.read(&mut chunk) {
                 Ok(count) => count,
@@ -358,16 +362,15 @@ impl<'a> Run<'a> {
                 error,
             ),
         };
-        let mut named = false;
-        for file in args.skip(1) {
-            named = true;
+        let mut files = args.skip(1);
+        let Some(first) = files.next() else {
+            return self.read_named(rt, "-");
+        };
+        self.read_named(rt, first.as_str())?;
+        for file in files {
             self.read_named(rt, file.as_str())?;
         }
-        if named {
-            Ok(())
-        } else {
-            self.read_named(rt, "-")
-        }
+        Ok(())
     }
 
     /// Reads all, and then answers for the stations that no call has made.

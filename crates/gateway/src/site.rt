@@ -96,6 +96,7 @@ impl<'a> Site<'a> {
     }
 }
 
+// By name and not by `From`: neither an association nor what the language has of it is this crate's.
 /// The association that is written.
 fn association(
     parties: Parties,
@@ -126,8 +127,7 @@ fn perform(
 ) -> Reply {
     match call {
         Call::Admit { network, stance } => {
-            let done = gateway.admit(registers, network, stance);
-            Reply::from(done.map(|()| Outcome::Done))
+            Reply::from(gateway.admit(registers, network, stance))
         }
         Call::Install {
             reading,
@@ -136,12 +136,10 @@ fn perform(
             lifetime,
         } => {
             let association = association(parties, algorithms, lifetime);
-            let done = gateway.install(registers, reading, association);
-            Reply::from(done.map(|()| Outcome::Done))
+            Reply::from(gateway.install(registers, reading, association))
         }
         Call::Revoke { destination, spi } => {
-            let done = gateway.revoke(registers, destination, spi);
-            Reply::from(done.map(|()| Outcome::Done))
+            Reply::from(gateway.revoke(registers, destination, spi))
         }
         Call::Protect {
             reading,
@@ -152,7 +150,7 @@ fn perform(
         } => {
             let component = ComponentId { kind, code };
             let sending = gateway.protect(registers, reading, network, component, octets, output);
-            Reply::from(sending.map(Outcome::Sending))
+            Reply::from(sending)
         }
         Call::Receive {
             reading,

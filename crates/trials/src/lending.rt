@@ -12,7 +12,8 @@ use station::registers::Registers;
 use station::station::Station;
 use std::test::Fail;
 
-// Under the test banks a message of one octet in mode 1: its tag is the sum of the octets and of the key's first four.
+// Under the test banks a message of one octet in mode 2, whose cipher adds the key's first octet, 0: its tag is the sum of its octets
+// and of the key's first four as a number.
 #[test]
 fn lent_banks(rt: HostRuntime) -> Result<(), Fail> {
     let (mut cipher, mut tag) = (TestCipher, TestTag);
@@ -39,19 +40,19 @@ fn lent_banks(rt: HostRuntime) -> Result<(), Fail> {
         told(station.install(&mut registers, &banks.ciphers, &banks.tags, 1_000, under)),
         (0, 0)
     );
-    let invoke = ComponentId { kind: 1, code: 37 };
+    let result = ComponentId { kind: 2, code: 56 };
     let answer = station.protect(
         &registers,
         &mut banks,
         1_000,
         OTHER,
-        invoke,
+        result,
         &[0xaa],
         &mut output,
     );
-    assert_eq!(rt; sent(answer), (1, 25));
-    // 4 + 1 + 37 + 3 + 0xe8 + the NE-Id's 0x12 + 0x34 + 0x56 + 0x78 + 0x90 + 0x12 + 0xaa + 0x00112233
-    assert_eq!(rt; output[21..].first().copied(), Some(0x00));
-    assert_eq!(rt; [output[22], output[23], output[24]], [0x11, 0x25, 0xa8]);
+    assert_eq!(rt; sent(answer), (2, 25));
+    // 4 + 2 + 56 + 3 + 0xe8 + 0x12 + 0x34 + 0x56 + 0x78 + 0x90 + 0x12 + 0xaa + 0x00112233
+    let [.., a, b, c, d] = output;
+    assert_eq!(rt; [a, b, c, d], [0x00, 0x11, 0x25, 0xbc]);
     Ok(())
 }

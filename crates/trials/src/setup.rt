@@ -1,12 +1,11 @@
 // What the trials start from.
+pub use cases::association;
 use cases::draft;
 use delivery::Gateway;
-use keys::Key;
 use rules::refusal::Refusal;
 use rules::settings::Settings;
 use station::protect::Sending;
 use station::receive::Handed;
-use station::records::SecurityAssociation;
 use station::slip::{Answer, close};
 use std::alloc::Global;
 use std::test::Fail;
@@ -26,32 +25,6 @@ pub fn gateway_of(heap: Global, own: u32, fallback: bool) -> Result<Gateway, Fai
     Settings::new(draft(heap, own, fallback)?)
         .map(Gateway::new)
         .map_err(|_| Fail::new("the settings of the trials are right"))
-}
-
-// An association of MEA 1 and MIA 1.
-pub fn association(
-    sender: u32,
-    destination: u32,
-    spi: u32,
-    soft: u64,
-    hard: u64,
-) -> SecurityAssociation {
-    let key = Key {
-        high: 0x0011223344556677,
-        low: 0x8899aabbccddeeff,
-    };
-    SecurityAssociation {
-        sender,
-        destination,
-        spi,
-        mea: 1,
-        cipher_key: key,
-        mia: 1,
-        integrity_key: key,
-        ppi: 7,
-        soft,
-        hard,
-    }
 }
 
 // The number and the place of a refusal, zeros where there is none: the trials speak in numbers, as the rules and an operator do.

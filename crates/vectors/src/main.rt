@@ -31,7 +31,7 @@ fn run(rt: &HostRuntime) -> anyhow::Result<()> {
         match answer(heap, line.as_str()) {
             Ok(Some(text)) => println!(rt; "{text}")?,
             Ok(None) => {}
-            Err(fault) => return Err(anyhow!(format!(in heap; "line {number}: {fault}")?)),
+            Err(fault) => return Err(anyhow!("line {number}: {fault}")),
         }
     }
     Ok(())
