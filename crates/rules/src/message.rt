@@ -1,7 +1,8 @@
 // The layout of MAPsec messages. No other module knows where a field lies.
-ghost use Rattle.std.specs.Prelude.{◌≡◌, ◌+◌, ◌≤◌, length};
+ghost use Rattle.std.specs.Prelude.{◌≡◌, ◌+◌, ◌<◌, ◌≤◌, length, MatchResult};
 ghost use Rattle.octets.specs.Numbers.{number};
 ghost use Rattle.rules.specs.Checks.{decided};
+ghost use Rattle.rules.specs.declared.refusal.Refusal.TheVariants.{MessageTooShort};
 ghost use Rattle.rules.specs.Layout.{part, open_header, sealed_header, iv_part, iv_octets, header_in, fields_in, header_checks, PartAt, ReadsOpen, ReadsSealed, Reads, ReadingUndoesLayingOut};
 
 use crate::component::ComponentId;
@@ -34,6 +35,17 @@ pub struct IvFields {
     pub prop: u32,
 }
 
+// How many octets a message has, which are so many at least.
+fn length_of(message: &[u8], least: usize) -> Result<usize, Refusal>
+    ensures { MatchResult result (λ n. (least ≤ n) × (n ≡ length message.now)) (λ e. (length message.now < least) × (e ≡ MessageTooShort (length message.now))) }
+{
+    let length = message.len();
+    if length < least {
+        return Err(Refusal::MessageTooShort { length });
+    }
+    Ok(length)
+}
+
 impl SecurityHeader {
     // The header of a message in mode 0: SPI 4, kind 1, code 1.
     #[tactic(auto, unfolding(octets::specs::Numbers::octets_of, crate::specs::Layout::open_header))]
@@ -59,10 +71,7 @@ impl SecurityHeader {
     pub fn read(message: &[u8]) -> Result<SecurityHeader, Refusal>
         ensures { result ≡ decided (header_checks message.now) (header_in message.now) }
     {
-        let length = message.len();
-        if length < OPEN_HEADER {
-            return Err(Refusal::MessageTooShort { length });
-        }
+        length_of(message, OPEN_HEADER)?;
         let component = ComponentId {
             kind: message[4],
             code: message[5],
@@ -150,10 +159,7 @@ impl<'a> OpenMessage<'a> {
     fn read(message: &'a [u8]) -> Result<OpenMessage<'a>, Refusal>
         ensures { ReadsOpen message.now result }
     {
-        let length = message.len();
-        if length < OPEN_HEADER {
-            return Err(Refusal::MessageTooShort { length });
-        }
+        let length = length_of(message, OPEN_HEADER)?;
         Ok(OpenMessage {
             header: Part::at(message, 0, OPEN_HEADER),
             payload: Part::at(message, OPEN_HEADER, length - OPEN_HEADER),
@@ -176,10 +182,7 @@ impl<'a> SealedMessage<'a> {
     fn read(message: &'a [u8]) -> Result<SealedMessage<'a>, Refusal>
         ensures { ReadsSealed message.now result }
     {
-        let length = message.len();
-        if length < SHORTEST_SEALED {
-            return Err(Refusal::MessageTooShort { length });
-        }
+        let length = length_of(message, SHORTEST_SEALED)?;
         let end = length - TAG;
         Ok(SealedMessage {
             header: Part::at(message, 0, SEALED_HEADER),
