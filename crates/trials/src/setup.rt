@@ -15,6 +15,7 @@ pub const OWN: u32 = 1;
 
 pub const OTHER: u32 = 2;
 
+// Each trial makes its own places and registers: places have to outlive the registers in them, so no function can make both.
 // A gateway of network 1 without fallback.
 pub fn gateway(heap: Global) -> Result<Gateway, Fail> {
     gateway_of(heap, OWN, false)
