@@ -1,5 +1,5 @@
 // Banks of ciphers.
-ghost use Rattle.std.specs.Prelude.{◌≡◌, ℕ, ◌<◌, map, is_some, bit_xor};
+ghost use Rattle.std.specs.Prelude.{◌≡◌, ℕ, ◌<◌, List, [], map, is_some, bit_xor};
 ghost use Rattle.banks.specs.Ciphers.{Cipher, Ciphers, Lawful, ciphered, only, unchanged, first_octet_added, Involution};
 ghost use Rattle.std.proofs.Common.{rules, arith};
 ghost use Rattle.banks.specs.Laws.{only_found};
@@ -15,6 +15,9 @@ pub trait CipherBank {
     // For each number nothing, or the function of its cipher.
     ghost means: { Self → Ciphers };
 
+    // The `&mut`s that it holds, by their ghost names, so that who lent them learns that they are held still: most banks hold none.
+    ghost held: { Self → List ℕ } = { λ _. [] };
+
     // Whether the bank has a cipher of this number.
     fn knows(&self, number: u8) -> bool
         ensures { result ≡ is_some (means self.now number) };
@@ -22,6 +25,7 @@ pub trait CipherBank {
     // Replaces the octets by the cipher's, and leaves them under a number that is not known. The meaning stays.
     fn run(&mut self, number: u8, key: &Key, iv: &Iv, octets: &mut [u8])
         ensures stays { means self.new ≡ means self.old }
+        ensures holds { held self.new ≡ held self.old }
         ensures octets { octets.new ≡ ciphered (means self.old) number key.now iv.now octets.old };
 
     ghost lawful: { (bank : Self) → Lawful (means bank) };

@@ -1,4 +1,5 @@
 // Two banks as one.
+ghost use Rattle.std.specs.Prelude.{◌++◌};
 ghost use Rattle.banks.specs.Ciphers.{either};
 ghost use Rattle.std.proofs.Common.{rules};
 
@@ -13,6 +14,8 @@ pub struct Pair<X, Y>(pub X, pub Y);
 
 impl<X: CipherBank, Y: CipherBank> CipherBank for Pair<X, Y> {
     ghost means = { λ p. either (X.CipherBank.means p.0) (Y.CipherBank.means p.1) };
+
+    ghost held = { λ p. X.CipherBank.held p.0 ++ Y.CipherBank.held p.1 };
 
     ghost lawful = { Prim.search rules };
 
@@ -31,6 +34,8 @@ impl<X: CipherBank, Y: CipherBank> CipherBank for Pair<X, Y> {
 
 impl<X: TagBank, Y: TagBank> TagBank for Pair<X, Y> {
     ghost means = { λ p. either (X.TagBank.means p.0) (Y.TagBank.means p.1) };
+
+    ghost held = { λ p. X.TagBank.held p.0 ++ Y.TagBank.held p.1 };
 
     ghost lawful = { Prim.search rules };
 

@@ -1,5 +1,5 @@
 // Banks of tags.
-ghost use Rattle.std.specs.Prelude.{◌≡◌, ℕ, ◌+◌, ◌%◌, ◌^◌, ◌<◌, List, ◌++◌, is_some, sum};
+ghost use Rattle.std.specs.Prelude.{◌≡◌, ℕ, ◌+◌, ◌%◌, ◌^◌, ◌<◌, List, [], ◌++◌, is_some, sum};
 ghost use Rattle.banks.specs.Mia1.{Padding, mia1};
 ghost use Rattle.banks.specs.Tags.{Tag, Tags, LawfulTags, tagged, octets_summed};
 ghost use Rattle.banks.specs.Ciphers.{only};
@@ -17,6 +17,9 @@ pub trait TagBank {
     // For each number nothing, or the function of its tag.
     ghost means: { Self → Tags };
 
+    // The `&mut`s that it holds, as those of a cipher bank.
+    ghost held: { Self → List ℕ } = { λ _. [] };
+
     // Whether the bank has a tag of this number.
     fn knows(&self, number: u8) -> bool
         ensures { result ≡ is_some (means self.now number) };
@@ -24,6 +27,7 @@ pub trait TagBank {
     // The tag of the two parts joined, and 0 under a number that is not known. The meaning stays.
     fn tag(&mut self, number: u8, key: &Key, first: &[u8], second: &[u8]) -> u32
         ensures stays { means self.new ≡ means self.old }
+        ensures holds { held self.new ≡ held self.old }
         ensures tagged { result ≡ tagged (means self.old) number key.now (first.now ++ second.now) };
 
     ghost lawful: { (bank : Self) → LawfulTags (means bank) };

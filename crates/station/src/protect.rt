@@ -1,6 +1,6 @@
 // Protect: from a component to the octets of a message.
 ghost use Rattle.std.specs.Prelude.{◌≡◌, ◌≤◌, not, length};
-ghost use Rattle.banks.specs.Banks.{MeanTheSame};
+ghost use Rattle.banks.specs.Banks.{MeanTheSame, HoldTheSame};
 ghost use Rattle.rules.specs.Checks.{decided};
 ghost use Rattle.rules.specs.declared.refusal.Refusal.TheVariants.{NoPolicy};
 ghost use Rattle.station.specs.Forms.{fit_checks, length_checks, form_checks};
@@ -105,6 +105,7 @@ impl Station {
     ) -> Result<Sending, Refusal>
         requires { length cleartext.now ≤ 1024 }
         ensures banks { MeanTheSame C.CipherBank.means T.TagBank.means banks.old banks.new }
+        ensures held { HoldTheSame C.CipherBank.held T.TagBank.held banks.old banks.new }
         ensures sends { Sends (record { station = self.old; contents = contents_of registers.now; ciphers = C.CipherBank.means banks.old.ciphers; tags = T.TagBank.means banks.old.tags; reading = reading; network = network; component = component; cleartext = cleartext.now; output = output.old }) self.new output.new result }
     {
         let association = choose(registers, reading, self.settings.own(), network).ok_or(
@@ -155,6 +156,7 @@ impl Station {
         output: &mut [u8],
     ) -> Result<Sending, Refusal>
         ensures banks { MeanTheSame C.CipherBank.means T.TagBank.means banks.old banks.new }
+        ensures held { HoldTheSame C.CipherBank.held T.TagBank.held banks.old banks.new }
         ensures protected { Protected (record { station = self.old; contents = contents_of registers.now; ciphers = C.CipherBank.means banks.old.ciphers; tags = T.TagBank.means banks.old.tags; reading = reading; network = network; component = component; cleartext = cleartext.now; output = output.old }) self.new output.new result }
     {
         self.clock(reading)?;

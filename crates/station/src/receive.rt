@@ -1,6 +1,6 @@
 // Receive: from the octets of a message to a component.
 ghost use Rattle.std.specs.Prelude.{◌≡◌, ◌<◌, true, ◌++◌, length, drop, is_ok, is_err};
-ghost use Rattle.banks.specs.Banks.{MeanTheSame};
+ghost use Rattle.banks.specs.Banks.{MeanTheSame, HoldTheSame};
 ghost use Rattle.rules.specs.Checks.{decided};
 ghost use Rattle.rules.specs.Layout.{header_in};
 ghost use Rattle.rules.specs.Window.{last_tick};
@@ -134,6 +134,7 @@ impl Station {
     ) -> Result<u64, Refusal>
         requires { reading < 281474976710656 }
         ensures tags { T.TagBank.means tags.new ≡ T.TagBank.means tags.old }
+        ensures holds { T.TagBank.held tags.new ≡ T.TagBank.held tags.old }
         ensures answer { result ≡ decided (fresh_checks self.now.settings (T.TagBank.means tags.old) registers.now.heard.places.now reading key association.now (message.now.header.octets.now ++ message.now.payload.octets.now) message.now.claimed message.now.tag.place) (last_tick self.now.settings.back reading key.tvp) }
     {
         let window = self.settings.window();
@@ -191,6 +192,7 @@ impl Station {
     ) -> Result<Handed, Refusal>
         requires { reading < 281474976710656 }
         ensures banks { MeanTheSame C.CipherBank.means T.TagBank.means banks.old banks.new }
+        ensures held { HoldTheSame C.CipherBank.held T.TagBank.held banks.old banks.new }
         ensures hands { HandsOver (record { station = self.old; contents = contents_of registers.old; ciphers = C.CipherBank.means banks.old.ciphers; tags = T.TagBank.means banks.old.tags; reading = reading; key = key; association = association.now; handed = handed; message = message.now; output = output.old }) self.new (contents_of registers.new) output.new result }
     {
         let payload = message.payload.octets;
@@ -230,6 +232,7 @@ impl Station {
         output: &mut [u8],
     ) -> Result<Handed, Refusal>
         ensures banks { MeanTheSame C.CipherBank.means T.TagBank.means banks.old banks.new }
+        ensures held { HoldTheSame C.CipherBank.held T.TagBank.held banks.old banks.new }
         ensures received { Received (record { station = self.old; contents = contents_of registers.old; ciphers = C.CipherBank.means banks.old.ciphers; tags = T.TagBank.means banks.old.tags; reading = reading; network = network; message = message.now; output = output.old }) self.new (contents_of registers.new) output.new result }
     {
         self.clock(reading)?;
@@ -277,6 +280,7 @@ impl Station {
         output: &mut [u8],
     ) -> Answer<Handed>
         ensures banks { MeanTheSame C.CipherBank.means T.TagBank.means banks.old banks.new }
+        ensures held { HoldTheSame C.CipherBank.held T.TagBank.held banks.old banks.new }
         ensures received { Received (record { station = self.old; contents = contents_of registers.old; ciphers = C.CipherBank.means banks.old.ciphers; tags = T.TagBank.means banks.old.tags; reading = reading; network = network; message = message.now; output = output.old }) self.new (contents_of registers.new) output.new result.outcome }
         ensures slip { result.slip ≡ record { number = refusal_number result.outcome; waiting = waiting } }
     {

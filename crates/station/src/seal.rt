@@ -1,6 +1,6 @@
 // Writing the octets of a message.
 ghost use Rattle.std.specs.Prelude.{◌≡◌, ◌+◌, length};
-ghost use Rattle.banks.specs.Banks.{MeanTheSame};
+ghost use Rattle.banks.specs.Banks.{MeanTheSame, HoldTheSame};
 ghost use Rattle.rules.specs.Layout.{open_message};
 ghost use Rattle.station.specs.Seal.{turned, sealed_under};
 
@@ -22,6 +22,7 @@ pub(crate) fn turn<C: CipherBank>(
     octets: &mut [u8],
 )
     ensures stays { C.CipherBank.means ciphers.new ≡ C.CipherBank.means ciphers.old }
+    ensures holds { C.CipherBank.held ciphers.new ≡ C.CipherBank.held ciphers.old }
     ensures octets { octets.new ≡ turned (C.CipherBank.means ciphers.old) association.now fields mode octets.old }
 {
     if let ProtectionMode::Confidentiality = mode {
@@ -56,6 +57,7 @@ pub(crate) fn write_sealed<C: CipherBank, T: TagBank>(
 )
     requires { length message.old ≡ 24 + length cleartext.now }
     ensures banks { MeanTheSame C.CipherBank.means T.TagBank.means banks.old banks.new }
+    ensures held { HoldTheSame C.CipherBank.held T.TagBank.held banks.old banks.new }
     ensures message { message.new ≡ sealed_under (C.CipherBank.means banks.old.ciphers) (T.TagBank.means banks.old.tags) association.now header fields mode cleartext.now }
 {
     let end = message.len();

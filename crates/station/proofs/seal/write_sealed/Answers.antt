@@ -13,6 +13,7 @@ returns g c =
     let old = c.args.message.now in
     record {
       banks = record { ciphers = c.turn.ensures.stays; tags = c.tag-tag.ensures.stays };
+      held = record { ciphers = c.turn.ensures.holds; tags = c.tag-tag.ensures.holds };
       message = sealed_copied (turned m a f c.args.mode) (tag_under (g.T.TagBank.means c.args.banks.now.tags) a) (turned_keeps m (g.met.C.CipherBank.lawful c.args.banks.now.ciphers) a f c.args.mode)
           c.copy_from_slice.new.self _ c.copy_from_slice-2.new.self c.args.cleartext.now c.turn.new.octets c.copy_from_slice-3.new.self old
           c.tag-tag.result (length c.args.cleartext.now) (length old - 4 - 20) (length old - 4) (length old - (length old - 4))
