@@ -3,8 +3,13 @@ use Rattle.std.proofs.Common.{◌≡◌, ℕ, zero, suc, ◌<◌, ◌≤◌, Boo
 use Rattle.std.proofs.lemmas.List.{get_or-set_same, get_or-set_other}
 use Rattle.std.proofs.lemmas.Bool.{cases_Bool, cases_eq, cases_order, both_ways, cond-true, cond-false, ltb-false, ltb-true}
 use Rattle.register.specs.Places.{Holds, Twice, Apart, Found, lookup, held_count, not_past, Empty}
-use Rattle.std.specs.Cmp.{IsEquivalence}
+use Rattle.std.specs.Cmp.{IsEquivalence, equiv, both_ways as one_answer}
 use Rattle.register.proofs.Counts.{count_none}
+
+-- What a kind of record shows of the sameness of its keys, as one fact.
+pub equivalence : {K : Type 0} (same : K → K → Bool) → ((k : K) → same k k ≡ true) → ((j k : K) → same j k ≡ true → same k j ≡ true) → ((i j k : K) → same i j ≡ true → same j k ≡ true → same i k ≡ true) → IsEquivalence same
+equivalence same reflexive symmetric transitive =
+    equiv (record { symm = λ j k. one_answer (same j k) (same k j) (symmetric j k) (symmetric k j); trans = transitive }) reflexive
 
 pub none_some : {X : Type 0} {x : X} → None ≡ Some x → ⊥
 none_some e = let z : ◌≡◌ {A = ℕ} 0 1 = cc in omega arith

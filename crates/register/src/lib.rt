@@ -17,7 +17,7 @@ use std::fmt;
 #[derive(Drop)]
 pub struct Register<'a, R: Keyed> {
     places: &'a mut [Option<R>],
-    ghost apart: { Apart R.Keyed.key R.Key.eq places.now },
+    ghost apart: { Apart R.Keyed.key R.Keyed.same places.now },
 }
 
 // No place is free for a record of a new key.
@@ -37,7 +37,7 @@ impl<'a, R: Keyed> Register<'a, R> {
     // Those beyond stay as they are: `clear` promises it, and `front` lends the register no hold of them.
     #[tactic(auto, using(crate::proofs::Lookups::free_apart, crate::proofs::Fronts::front_free))]
     pub fn new(places: &'a mut [Option<R>]) -> Register<'a, R>
-        ensures empty { Empty R.Keyed.key R.Key.eq result.places.now }
+        ensures empty { Empty R.Keyed.key R.Keyed.same result.places.now }
         ensures capacity { length result.places.now ≡ min (length places.old) R.Keyed.MOST }
     {
         clear(places);
@@ -70,16 +70,16 @@ impl<'a, R: Keyed> Register<'a, R> {
 
     // The record under a key, or none.
     pub fn find(&self, key: R::Key) -> Option<R>
-        ensures value { result ≡ lookup R.Keyed.key R.Key.eq key self.now.places.now }
-        ensures found { Found R.Keyed.key R.Key.eq key self.now.places.now result }
+        ensures value { result ≡ lookup R.Keyed.key R.Keyed.same key self.now.places.now }
+        ensures found { Found R.Keyed.key R.Keyed.same key self.now.places.now result }
     {
         self.place(key).and_then(|i| self.places[i])
     }
 
     // Holds the record: in place of the one under the same key, or else in a free place.
-    #[tactic(auto, using(crate::proofs::Changes::apart_with, crate::proofs::Positions::place_at))]
+    #[tactic(auto, using(crate::proofs::Changes::apart_with, crate::proofs::Lookups::equivalence, crate::proofs::Positions::place_at))]
     pub fn put(&mut self, new: R) -> Result<(), Full>
-        ensures { Put R.Keyed.key R.Key.eq new self.old.places.now self.new.places.now (is_ok result) }
+        ensures { Put R.Keyed.key R.Keyed.same new self.old.places.now self.new.places.now (is_ok result) }
     {
         let i = self.place_for(new.key_of()).ok_or(Full)?;
         self.places[i] = Some(new);
@@ -87,9 +87,8 @@ impl<'a, R: Keyed> Register<'a, R> {
     }
 
     // Drops the record under a key, and answers it.
-    #[tactic(auto, using(crate::proofs::Changes::apart_without))]
     pub fn remove(&mut self, key: R::Key) -> Option<R>
-        ensures { Removed R.Keyed.key R.Key.eq key self.old.places.now self.new.places.now result }
+        ensures { Removed R.Keyed.key R.Keyed.same key self.old.places.now self.new.places.now result }
     {
         let i = self.place(key)?;
         let places = &mut *self.places;
@@ -99,14 +98,14 @@ impl<'a, R: Keyed> Register<'a, R> {
     // The place of the record under a key.
     #[tactic(auto, using(crate::proofs::Positions::place_found))]
     fn place(&self, key: R::Key) -> Option<usize>
-        ensures { MatchOption result (lookup R.Keyed.key R.Key.eq key self.now.places.now ≡ None) (λ i. PlaceOf R.Keyed.key R.Key.eq key self.now.places.now i × (is_some (lookup R.Keyed.key R.Key.eq key self.now.places.now) ≡ true)) }
+        ensures { MatchOption result (lookup R.Keyed.key R.Keyed.same key self.now.places.now ≡ None) (λ i. PlaceOf R.Keyed.key R.Keyed.same key self.now.places.now i × (is_some (lookup R.Keyed.key R.Keyed.same key self.now.places.now) ≡ true)) }
     {
         place_of(self.places, key)
     }
 
     // The place to write a record of a key at: the one that holds the key, or else a free one.
     fn place_for(&self, key: R::Key) -> Option<usize>
-        ensures { MatchOption result ((lookup R.Keyed.key R.Key.eq key self.now.places.now ≡ None) × (held_count self.now.places.now ≡ length self.now.places.now)) (λ i. PlaceOf R.Keyed.key R.Key.eq key self.now.places.now i) }
+        ensures { MatchOption result ((lookup R.Keyed.key R.Keyed.same key self.now.places.now ≡ None) × (held_count self.now.places.now ≡ length self.now.places.now)) (λ i. PlaceOf R.Keyed.key R.Keyed.same key self.now.places.now i) }
     {
         self.place(key).or_else(|| free_place(self.places))
     }
@@ -129,14 +128,14 @@ impl<'a, R: Ending> Register<'a, R> {
 
     // Drops every record whose last tick is before `tick`.
     pub fn drop_past(&mut self, tick: u64)
-        ensures { Dropped R.Keyed.key R.Key.eq R.Ending.last tick self.old.places.now self.new.places.now }
+        ensures { Dropped R.Keyed.key R.Keyed.same R.Ending.last tick self.old.places.now self.new.places.now }
     {
         drop_past(self.places, tick);
     }
 
     // Drops every record whose last tick is before `tick`, and then holds the record as `put` does.
     pub fn put_at(&mut self, new: R, tick: u64) -> Result<(), Full>
-        ensures { PutAt R.Keyed.key R.Key.eq R.Ending.last new tick self.old.places.now self.new.places.now (is_ok result) }
+        ensures { PutAt R.Keyed.key R.Keyed.same R.Ending.last new tick self.old.places.now self.new.places.now (is_ok result) }
     {
         self.drop_past(tick);
         self.put(new)

@@ -6,14 +6,14 @@ use crate::record::{Ending, Keyed};
 
 // Whether a place holds a record of the key.
 fn has_key<R: Keyed>(place: &Option<R>, key: R::Key) -> bool
-    ensures { result ≡ has_key R.Keyed.key R.Key.eq key place.now }
+    ensures { result ≡ has_key R.Keyed.key R.Keyed.same key place.now }
 {
-    place.is_some_and(|record| key == record.key_of())
+    place.is_some_and(|record| record.has_key(key))
 }
 
 // The first place with a record of the key.
 pub(crate) fn place_of<R: Keyed>(places: &[Option<R>], key: R::Key) -> Option<usize>
-    ensures { result ≡ position (has_key R.Keyed.key R.Key.eq key) places.now }
+    ensures { result ≡ position (has_key R.Keyed.key R.Keyed.same key) places.now }
 {
     places.iter().position(|place| has_key(place, key))
 }

@@ -1,6 +1,7 @@
 // The records that a station keeps. None holds an array, so that each can lie in a register.
-ghost use Rattle.std.specs.Prelude.{◌≡◌, ◌-◌};
-ghost use Rattle.station.specs.Records.{association_key, live};
+ghost use Rattle.std.specs.Prelude.{◌≡◌, ◌-◌, nat_eq};
+ghost use Rattle.station.specs.Records.{association_key, same_association, live, same_heard};
+ghost use Rattle.std.proofs.Common.{rules};
 
 use keys::Key;
 use register::{Ending, Keyed};
@@ -24,12 +25,24 @@ impl Keyed for Policy {
 
     ghost key = { λ p. p.network };
 
+    ghost same = { nat_eq };
+
     ghost MOST = { 64 };
 
     const MOST: usize = 64;
 
+    ghost reflexive = { Prim.search rules };
+
+    ghost symmetric = { Prim.search rules };
+
+    ghost transitive = { Prim.search rules };
+
     fn key_of(&self) -> u32 {
         self.network
+    }
+
+    fn has_key(&self, k: u32) -> bool {
+        k == self.network
     }
 }
 
@@ -70,15 +83,27 @@ impl Keyed for SecurityAssociation {
 
     ghost key = { association_key };
 
+    ghost same = { same_association };
+
     ghost MOST = { 256 };
 
     const MOST: usize = 256;
+
+    ghost reflexive = { Prim.search rules };
+
+    ghost symmetric = { Prim.search rules };
+
+    ghost transitive = { Prim.search rules };
 
     fn key_of(&self) -> AssociationKey {
         AssociationKey {
             destination: self.destination,
             spi: self.spi,
         }
+    }
+
+    fn has_key(&self, k: AssociationKey) -> bool {
+        k == self.key_of()
     }
 }
 
@@ -113,12 +138,24 @@ impl Keyed for HeardMessage {
 
     ghost key = { λ h. h.key };
 
+    ghost same = { same_heard };
+
     ghost MOST = { 4096 };
 
     const MOST: usize = 4096;
 
+    ghost reflexive = { Prim.search rules };
+
+    ghost symmetric = { Prim.search rules };
+
+    ghost transitive = { Prim.search rules };
+
     fn key_of(&self) -> HeardKey {
         self.key
+    }
+
+    fn has_key(&self, k: HeardKey) -> bool {
+        k == self.key
     }
 }
 

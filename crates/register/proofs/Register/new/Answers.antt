@@ -7,5 +7,4 @@ use Rattle.register.proofs.Register.new.Goals as goal
 pub returns-clause-empty : goal.returns-clause-empty
 returns-clause-empty g c =
     let m = g.R.Keyed in
-    let eq = g.R.Key.PartialEq.eq in
-    subst (Empty m.key eq) (sym c.front.ensures) (free_empty m.key eq _ (front_free m.MOST c.clear.new.places None c.clear.ensures.emptied))
+    subst (Empty m.key m.same) (sym c.front.ensures) (free_empty m.key m.same _ (front_free m.MOST c.clear.new.places None c.clear.ensures.emptied))
