@@ -100,8 +100,8 @@ impl Call {
 }
 
 /// `NAME admit NETWORK STANCE`.
-fn admit(line: Line<'_>) -> Result<Call, Fault>
-    ensures { result ≡ admit line.entry.octets.now }
+fn admit(line: &Line<'_>) -> Result<Call, Fault>
+    ensures { result ≡ admit line.now.octets.now }
 {
     let call = Call::Admit {
         network: line.number(2)?,
@@ -112,8 +112,8 @@ fn admit(line: Line<'_>) -> Result<Call, Fault>
 }
 
 /// SENDER DESTINATION SPI of `install`.
-fn parties_in(line: Line<'_>) -> Result<Parties, Fault>
-    ensures { result ≡ parties line.entry.octets.now }
+fn parties_in(line: &Line<'_>) -> Result<Parties, Fault>
+    ensures { result ≡ parties line.now.octets.now }
 {
     Ok(Parties {
         sender: line.number(3)?,
@@ -123,8 +123,8 @@ fn parties_in(line: Line<'_>) -> Result<Parties, Fault>
 }
 
 /// MEA MEK MIA MIK of `install`.
-fn algorithms_in(line: Line<'_>) -> Result<Algorithms, Fault>
-    ensures { result ≡ algorithms line.entry.octets.now }
+fn algorithms_in(line: &Line<'_>) -> Result<Algorithms, Fault>
+    ensures { result ≡ algorithms line.now.octets.now }
 {
     Ok(Algorithms {
         mea: line.number(6)?,
@@ -135,8 +135,8 @@ fn algorithms_in(line: Line<'_>) -> Result<Algorithms, Fault>
 }
 
 /// PPI SOFT HARD of `install`.
-fn lifetime_in(line: Line<'_>) -> Result<Lifetime, Fault>
-    ensures { result ≡ lifetime line.entry.octets.now }
+fn lifetime_in(line: &Line<'_>) -> Result<Lifetime, Fault>
+    ensures { result ≡ lifetime line.now.octets.now }
 {
     Ok(Lifetime {
         ppi: line.number(10)?,
@@ -146,8 +146,8 @@ fn lifetime_in(line: Line<'_>) -> Result<Lifetime, Fault>
 }
 
 /// `NAME install READING SENDER DESTINATION SPI MEA MEK MIA MIK PPI SOFT HARD`.
-fn install(line: Line<'_>) -> Result<Call, Fault>
-    ensures { result ≡ install line.entry.octets.now }
+fn install(line: &Line<'_>) -> Result<Call, Fault>
+    ensures { result ≡ install line.now.octets.now }
 {
     let call = Call::Install {
         reading: line.number(2)?,
@@ -160,8 +160,8 @@ fn install(line: Line<'_>) -> Result<Call, Fault>
 }
 
 /// `NAME revoke DESTINATION SPI`.
-fn revoke(line: Line<'_>) -> Result<Call, Fault>
-    ensures { result ≡ revoke line.entry.octets.now }
+fn revoke(line: &Line<'_>) -> Result<Call, Fault>
+    ensures { result ≡ revoke line.now.octets.now }
 {
     let call = Call::Revoke {
         destination: line.number(2)?,
@@ -172,8 +172,8 @@ fn revoke(line: Line<'_>) -> Result<Call, Fault>
 }
 
 /// `NAME protect READING NETWORK KIND CODE OCTETS ROOM`; what the octets are is not looked at.
-fn protect(line: Line<'_>) -> Result<Call, Fault>
-    ensures { result ≡ protect line.entry.octets.now }
+fn protect(line: &Line<'_>) -> Result<Call, Fault>
+    ensures { result ≡ protect line.now.octets.now }
 {
     let call = Call::Protect {
         reading: line.number(2)?,
@@ -187,8 +187,8 @@ fn protect(line: Line<'_>) -> Result<Call, Fault>
 }
 
 /// `NAME receive READING NETWORK WAITING OCTETS ROOM`; what the octets are is not looked at.
-fn receive(line: Line<'_>) -> Result<Call, Fault>
-    ensures { result ≡ receive line.entry.octets.now }
+fn receive(line: &Line<'_>) -> Result<Call, Fault>
+    ensures { result ≡ receive line.now.octets.now }
 {
     let call = Call::Receive {
         reading: line.number(2)?,
@@ -201,8 +201,8 @@ fn receive(line: Line<'_>) -> Result<Call, Fault>
 }
 
 /// `NAME plain READING KIND CODE WAITING OCTETS`; what the octets are is not looked at.
-fn plain(line: Line<'_>) -> Result<Call, Fault>
-    ensures { result ≡ plain line.entry.octets.now }
+fn plain(line: &Line<'_>) -> Result<Call, Fault>
+    ensures { result ≡ plain line.now.octets.now }
 {
     let call = Call::Plain {
         reading: line.number(2)?,
@@ -220,12 +220,12 @@ pub fn read_call(line: Line<'_>) -> Result<Call, Fault>
     ensures { result ≡ called_by line.entry.octets.now }
 {
     match line.word(1) {
-        b"admit" => admit(line),
-        b"install" => install(line),
-        b"revoke" => revoke(line),
-        b"protect" => protect(line),
-        b"receive" => receive(line),
-        b"plain" => plain(line),
+        b"admit" => admit(&line),
+        b"install" => install(&line),
+        b"revoke" => revoke(&line),
+        b"protect" => protect(&line),
+        b"receive" => receive(&line),
+        b"plain" => plain(&line),
         _ => Err(Fault {
             place: 1,
             expected: Expected::Call,

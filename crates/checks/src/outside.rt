@@ -116,13 +116,7 @@ pub fn print_cases(rt: &HostRuntime, file: &str) -> anyhow::Result<()> {
         .lines()
         .filter(|line| !line.is_empty() && !line.starts_with('#'));
     for (number, line) in (1u64..).zip(cases) {
-        print_case(
-            rt,
-            number,
-            Line {
-                octets: line.as_bytes(),
-            },
-        )?;
+        print_case(rt, number, Line::of(line.as_bytes()))?;
     }
     Ok(())
 }

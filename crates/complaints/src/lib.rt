@@ -2,8 +2,8 @@
 #![tactic(auto)]
 
 use std::fmt;
+use words::cut::word_at;
 use words::fault::{Expected, Fault};
-use words::line::Line;
 
 /// A fault and the line that it is in.
 #[derive(Drop)]
@@ -42,8 +42,7 @@ impl fmt::Display for Complaint<'_> {
         if let Expected::Text = expected {
             return write!(f, "found octets that are not text, expected {expected}");
         }
-        let line = Line { octets: self.line };
-        match line.word(place) {
+        match word_at(self.line, place) {
             b"" => write!(f, "found the end of the line")?,
             word => write!(f, "found '{}'", Front { word })?,
         }

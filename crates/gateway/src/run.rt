@@ -16,8 +16,8 @@ use std::alloc::{AllocError, Global};
 use std::fmt::Display;
 use std::io::Read;
 use std::{env, fmt, fs, io};
+use words::cut::word_at;
 use words::fault::{Expected, Fault};
-use words::line::Line;
 use words::numbers::{answer_number, octets};
 
 /// How standard input is called in a message.
@@ -33,6 +33,16 @@ pub struct Stopped;
 struct At<'f> {
     file: &'f str,
     number: u64,
+}
+
+impl<'f> At<'f> {
+    /// The line that is being gathered.
+    fn line_of(file: &'f str, lines: &LineCutter) -> At<'f> {
+        At {
+            file,
+            number: lines.number(),
+        }
+    }
 }
 
 impl fmt::Display for At<'_> {
@@ -180,7 +190,7 @@ impl<'a> Run<'a> {
         let Some(place) = call.octets_place() else {
             return Ok(Vec::new(rt.alloc()));
         };
-        let word = Line { octets: line }.word(place);
+        let word = word_at(line, place);
         let (octets, expected) = match answer_number(word) {
             Some(answer) => (self.octets_again(rt.alloc(), answer), Expected::Answer),
             None => (octets(rt.alloc(), word), Expected::Octets),
@@ -282,18 +292,14 @@ impl<'a> Run<'a> {
         lines: &mut LineCutter,
         octet: u8,
     ) -> Result<(), Stopped> {
-        let at = At {
-            file,
-            number: lines.number(),
-        };
         match lines.put(octet) {
             Ok(false) => Ok(()),
             Ok(true) => {
-                self.enter_line(rt, at, lines.line())?;
+                self.enter_line(rt, At::line_of(file, lines), lines.line())?;
                 lines.clear();
                 Ok(())
             }
-            Err(fault) => stop_at(rt, at, fault),
+            Err(fault) => stop_at(rt, At::line_of(file, lines), fault),
         }
     }
 
@@ -304,10 +310,7 @@ impl<'a> Run<'a> {
         file: &str,
         lines: &LineCutter,
     ) -> Result<(), Stopped> {
-        let at = At {
-            file,
-            number: lines.number(),
-        };
+        let at = At::line_of(file, lines);
         match lines.last_line() {
             Ok(None) => Ok(()),
             Ok(Some(line)) => self.enter_line(rt, at, line),

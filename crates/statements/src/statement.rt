@@ -8,6 +8,7 @@ ghost use Rattle.words.specs.declared.fault.Expected.TheVariants.{Text as NoText
 use crate::declaration::{Declaration, Name, Places};
 use calls::{Call, read_call};
 use std::str::from_utf8;
+use words::cut::word_at;
 use words::fault::{Expected, Fault, Keyword};
 use words::line::Line;
 
@@ -31,15 +32,15 @@ fn station_name(word: &[u8]) -> Option<Name>
 }
 
 /// The name that the first word of a call or the second word of a declaration has to be.
-fn name_at(line: Line<'_>, place: usize, expected: Expected) -> Result<Name, Fault>
-    ensures { result ≡ name_at expected place line.entry.octets.now }
+fn name_at(line: &Line<'_>, place: usize, expected: Expected) -> Result<Name, Fault>
+    ensures { result ≡ name_at expected place line.now.octets.now }
 {
     station_name(line.word(place)).ok_or(Fault { place, expected })
 }
 
 /// Three numbers of places, and the end of the line.
-fn written_places(line: Line<'_>) -> Result<Places, Fault>
-    ensures { result ≡ three_places line.entry.octets.now }
+fn written_places(line: &Line<'_>) -> Result<Places, Fault>
+    ensures { result ≡ three_places line.now.octets.now }
 {
     let policies = line.number_up_to(13, 65536)?;
     let associations = line.number_up_to(14, 65536)?;
@@ -53,8 +54,8 @@ fn written_places(line: Line<'_>) -> Result<Places, Fault>
 }
 
 /// The numbers of places that end a line, or those that stand where none is written.
-fn places_in(line: Line<'_>) -> Result<Places, Fault>
-    ensures { result ≡ places line.entry.octets.now }
+fn places_in(line: &Line<'_>) -> Result<Places, Fault>
+    ensures { result ≡ places line.now.octets.now }
 {
     match line.word(12) {
         b"" => Ok(Places {
@@ -71,8 +72,8 @@ fn places_in(line: Line<'_>) -> Result<Places, Fault>
 }
 
 /// `station NAME own N ne N back N ahead N fallback yes|no [places N N N]`.
-fn station(line: Line<'_>) -> Result<Declaration, Fault>
-    ensures { result ≡ station line.entry.octets.now }
+fn station(line: &Line<'_>) -> Result<Declaration, Fault>
+    ensures { result ≡ station line.now.octets.now }
 {
     let name = name_at(line, 1, Expected::StationName)?;
     line.keyword(2, Keyword::Own)?;
@@ -94,8 +95,8 @@ fn station(line: Line<'_>) -> Result<Declaration, Fault>
 }
 
 /// `listed NAME KIND CODE`.
-fn listed(line: Line<'_>) -> Result<Declaration, Fault>
-    ensures { result ≡ listed line.entry.octets.now }
+fn listed(line: &Line<'_>) -> Result<Declaration, Fault>
+    ensures { result ≡ listed line.now.octets.now }
 {
     let name = name_at(line, 1, Expected::StationName)?;
     let kind = line.number(2)?;
@@ -105,8 +106,8 @@ fn listed(line: Line<'_>) -> Result<Declaration, Fault>
 }
 
 /// `profile NAME PPI CODE LEVEL`.
-fn profile(line: Line<'_>) -> Result<Declaration, Fault>
-    ensures { result ≡ profile line.entry.octets.now }
+fn profile(line: &Line<'_>) -> Result<Declaration, Fault>
+    ensures { result ≡ profile line.now.octets.now }
 {
     let name = name_at(line, 1, Expected::StationName)?;
     let ppi = line.number(2)?;
@@ -122,18 +123,18 @@ fn profile(line: Line<'_>) -> Result<Declaration, Fault>
 }
 
 /// The call of a line, at the station that its first word names.
-fn called(line: Line<'_>) -> Result<Statement, Fault>
-    ensures { result ≡ called line.entry.octets.now }
+fn called(line: &Line<'_>) -> Result<Statement, Fault>
+    ensures { result ≡ called line.now.octets.now }
 {
     let name = name_at(line, 0, Expected::Statement)?;
-    let call = read_call(line)?;
+    let call = read_call(*line)?;
     Ok(Statement::Calls { name, call })
 }
 
 /// The declaration that the first word of a line begins; none, where it begins something else.
 #[tactic(auto, unfolding(crate::specs::Statements::declaration))]
-fn declaration(line: Line<'_>) -> Option<Result<Declaration, Fault>>
-    ensures { result ≡ declaration line.entry.octets.now }
+fn declaration(line: &Line<'_>) -> Option<Result<Declaration, Fault>>
+    ensures { result ≡ declaration line.now.octets.now }
 {
     match line.word(0) {
         b"station" => Some(station(line)),
@@ -145,8 +146,8 @@ fn declaration(line: Line<'_>) -> Option<Result<Declaration, Fault>>
 
 /// The statement that the first word of a line begins.
 #[tactic(auto, unfolding(crate::specs::Statements::declaration, crate::specs::Statements::begun))]
-fn begun(line: Line<'_>) -> Result<Statement, Fault>
-    ensures { result ≡ begun line.entry.octets.now }
+fn begun(line: &Line<'_>) -> Result<Statement, Fault>
+    ensures { result ≡ begun line.now.octets.now }
 {
     match declaration(line) {
         Some(declared) => declared.map(Statement::Declares),
@@ -156,13 +157,14 @@ fn begun(line: Line<'_>) -> Result<Statement, Fault>
 
 /// The statement of a line of text; none, where the line has no word.
 #[tactic(auto, unfolding(crate::specs::Statements::statement))]
-fn read_words(line: Line<'_>) -> Result<Option<Statement>, Fault>
-    ensures { result ≡ statement line.entry.octets.now }
+fn read_words(line: &[u8]) -> Result<Option<Statement>, Fault>
+    ensures { result ≡ statement line.now }
 {
-    if line.word(0).is_empty() {
+    // Before its words are cut: a line of a comment or of blanks has none.
+    if word_at(line, 0).is_empty() {
         return Ok(None);
     }
-    begun(line).map(Some)
+    begun(&Line::of(line)).map(Some)
 }
 
 /// The statement of a line; none, where the line has no word.
@@ -176,5 +178,5 @@ pub fn read_statement(line: &[u8]) -> Result<Option<Statement>, Fault>
             expected: Expected::Text,
         });
     }
-    read_words(Line { octets: line })
+    read_words(line)
 }

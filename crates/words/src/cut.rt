@@ -1,6 +1,6 @@
 // Cutting a line into words.
 ghost use Rattle.std.specs.Prelude.{◌≡◌, not, position};
-ghost use Rattle.words.specs.Words.{blank, unblanked, uncommented, run, past, word, after};
+ghost use Rattle.words.specs.Words.{blank, unblanked, uncommented, run, past, word, after, word_at};
 
 /// A blank parts words: a space or a tab.
 fn is_blank(octet: u8) -> bool
@@ -57,4 +57,18 @@ pub fn first_word(line: &[u8]) -> (&[u8], &[u8])
     ensures rest { result.1.now ≡ after line.now }
 {
     split_at_blank(skip_comment(skip_blanks(line)))
+}
+
+/// The word of a line at a place, counted from 0; it is empty where the line has ended.
+#[tactic(auto, using(crate::proofs::Cuts::from_more), unfolding(crate::specs::Words::word_at))]
+pub fn word_at(line: &[u8], place: usize) -> &[u8]
+    ensures { result.now ≡ word_at place line.now }
+{
+    let mut left = line;
+    for _ in 0..place {
+        let (_, rest) = first_word(left);
+        left = rest;
+    }
+    let (word, _) = first_word(left);
+    word
 }

@@ -4,5 +4,5 @@ use Rattle.words.proofs.line.Line.field.Goals as goal
 
 pub overflow_add-place : goal.overflow_add-place
 overflow_add-place c =
-    let within = keyword_within c.args.keyword c.args.place c.args.self.octets.now c.in_ok-keyword.ensures in
+    let within = keyword_within c.args.keyword c.args.place c.args.self.now.octets.now c.in_ok-keyword.ensures in
     search (rules, within)
