@@ -50,8 +50,9 @@ impl Words<'_> {
     // The next word as octets.
     fn octets(&mut self, what: &'static str) -> Result<Vec<u8>, Fault> {
         let word = self.rest.next().ok_or(Fault::Missing(what))?;
+        // Want of memory is the fault of a word that writes octets alone: any other is none, however long.
         written::read(self.heap, word).map_err(|error| match error {
-            FromHexError::OutOfMemory => Fault::Memory(AllocError),
+            FromHexError::OutOfMemory if written::is_written(word) => Fault::Memory(AllocError),
             _ => Fault::NotHex(what),
         })
     }
