@@ -62,3 +62,6 @@ impl Memory {
         Registers::new(&mut self.policies, &mut self.associations, &mut self.heard)
     }
 }
+
+#[cfg(test)]
+mod tests;
